@@ -1,0 +1,2 @@
+-- The laws of the floor `groups`.
+pub mod Headers

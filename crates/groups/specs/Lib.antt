@@ -1,0 +1,3 @@
+-- What the floor `groups` means.
+pub mod Group
+pub mod Header
