@@ -1,0 +1,2 @@
+-- The claims hold.
+pub mod Points

@@ -1,0 +1,39 @@
+-- The P lines hold: each is computed from the definitions.
+use mathlib.Core.Path.{_≡_, refl}
+use mathlib.Core.List.{List, [], _∷_, _++_}
+use lib.Dec.{lit<}
+use native.Mathlib.Omega.{arith}
+use Rattle.blocks.specs.Divide.{remainder, overBits, reduced}
+use Rattle.blocks.specs.Block.{checkOf, valid, Valid}
+use Rattle.blocks.specs.declared.Kind.the-variants.{A, B}
+use Rattle.blocks.proofs.Validity.{true-valid, valid-left}
+use Rattle.demands.specs.Points.{AllHold, checkLines, groupCheckLines, kindLines, points}
+
+valid-as-b : Valid B 0x0000198
+unfolding valid remainder overBits reduced
+valid-as-b = true-valid B 0x0000198 refl
+
+not-valid-as-a : Valid A 0x0000198 → ⊥
+unfolding remainder overBits reduced
+not-valid-as-a v = let e : remainder 0x0000198 ≡ 0x0FC = valid-left A 0x0000198 v in omega arith
+
+check-lines : AllHold checkLines
+unfolding checkOf remainder overBits reduced
+check-lines = (refl, (refl, (refl, tt)))
+
+group-check-lines : AllHold groupCheckLines
+unfolding checkOf remainder overBits reduced
+group-check-lines = (refl, (refl, (refl, (refl, tt))))
+
+kind-lines : AllHold kindLines
+kind-lines = (valid-as-b, (not-valid-as-a, ((0x59, 2, refl, lit< tt), tt)))
+
+-- lists of lines that hold, one after the other
+join : (ps qs : List (Type 0)) → AllHold ps → AllHold qs → AllHold (ps ++ qs)
+join [] qs h k = k
+join (p ∷ ps) qs h k = (h .0, join ps qs (h .1) k)
+
+-- all of them
+pub points-hold : AllHold points
+points-hold =
+    join (checkLines ++ groupCheckLines) kindLines (join checkLines groupCheckLines check-lines group-check-lines) kind-lines

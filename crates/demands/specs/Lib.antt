@@ -1,0 +1,2 @@
+-- What the bench promises, in the demands' words.
+pub mod Points

@@ -1,0 +1,31 @@
+-- The lines marked P in the rules, as one list; the one claim is that all of them hold.
+use Prim.Native.Nat.{ℕ, _*_, _^_, _<_}
+use mathlib.Core.Path.{_≡_}
+use mathlib.Core.List.{List, [], _∷_, _++_}
+use lib.Bits.{bitXor}
+use Rattle.blocks.specs.Block.{checkOf, Valid}
+use Rattle.blocks.specs.declared.Kind.the-variants.{A, B, C, D}
+
+-- each statement of a list holds
+abbrev pub AllHold : List (Type 0) → Type 0
+AllHold [] = Unit {0}
+AllHold (line ∷ lines) = line × AllHold lines
+
+-- word 0000, A: check 0FC. 0001, A: 145. FFFF, A: 031
+abbrev pub checkLines : List (Type 0)
+checkLines = (checkOf 0x0000 A ≡ 0x0FC) ∷ (checkOf 0x0001 A ≡ 0x145) ∷ (checkOf 0xFFFF A ≡ 0x031) ∷ []
+
+-- group 1001/24E, 0000/198, E0CD/1E9, 4142/0CA (word/check)
+abbrev pub groupCheckLines : List (Type 0)
+groupCheckLines =
+    (checkOf 0x1001 A ≡ 0x24E) ∷ (checkOf 0x0000 B ≡ 0x198) ∷ (checkOf 0xE0CD C ≡ 0x1E9) ∷ (checkOf 0x4142 D ≡ 0x0CA) ∷ []
+
+-- word 0000 with check 198 is valid as B, not as A; 0FC and 198 differ within seven neighbouring bits
+abbrev pub kindLines : List (Type 0)
+kindLines =
+    Valid B 0x0000198 ∷ (Valid A 0x0000198 → ⊥)
+    ∷ ((s c : ℕ) × (bitXor 0x0FC 0x198 ≡ s * 2 ^ c) × (s < 2 ^ 7)) ∷ []
+
+-- the P lines
+abbrev pub points : List (Type 0)
+points = checkLines ++ groupCheckLines ++ kindLines
