@@ -1,0 +1,20 @@
+-- `keys::pair` meets its contract: the sum is the definition.
+-- Assumes nothing.
+use mathlib.Core.Path.{refl}
+use Rattle.keys.specs.Fields.{pairOf}
+use borrow.Author.Needs.{needs}
+use Rattle.keys.proofs.pair.Statement.{statement}
+use Rattle.keys.proofs.pair.Tie as tie
+
+mul-result : tie.Need-mul-result
+mul-result c = search needs
+
+add-result : tie.Need-add-result
+add-result c = search needs
+
+returns : tie.Need-returns
+unfolding pairOf
+returns c = refl
+
+pub pair-spec : {M : Type 1} → statement M
+pair-spec = tie.close (tie.spec mul-result add-result returns)
