@@ -1,3 +1,5 @@
 -- What the floor `groups` means.
 pub mod Group
 pub mod Header
+pub mod Content
+pub mod Written
