@@ -3,11 +3,17 @@ use mathlib.Core.Path.{_≡_, refl}
 use mathlib.Core.List.{List, [], _∷_, _++_}
 use lib.Dec.{lit<}
 use native.Mathlib.Omega.{arith}
+use Rattle.bits.specs.Spell.{spell}
+use Rattle.bits.specs.Bytes.{bitAt, bytesOf}
+use Rattle.groups.specs.Group.{withBlockOf}
+use Rattle.groups.specs.Header.{thirdKind}
+use Rattle.groups.specs.Content.{headerOf, contentOf}
+use Rattle.groups.specs.Written.{groupIn, blockIn, wordIn, fourBlocks}
 use Rattle.blocks.specs.Divide.{remainder, overBits, reduced}
-use Rattle.blocks.specs.Block.{checkOf, valid, Valid}
+use Rattle.blocks.specs.Block.{checkOf, valid, Valid, judgeOf}
 use Rattle.blocks.specs.declared.Kind.the-variants.{A, B}
 use Rattle.blocks.proofs.Validity.{true-valid, valid-left}
-use Rattle.demands.specs.Points.{AllHold, checkLines, groupCheckLines, kindLines, points}
+use Rattle.demands.specs.Points.{AllHold, checkLines, groupCheckLines, groupLines, kindLines, points}
 
 valid-as-b : Valid B 0x0000198
 unfolding valid remainder overBits reduced
@@ -25,6 +31,10 @@ group-check-lines : AllHold groupCheckLines
 unfolding checkOf remainder overBits reduced
 group-check-lines = (refl, (refl, (refl, (refl, tt))))
 
+group-lines : AllHold groupLines
+unfolding groupIn withBlockOf blockIn wordIn spell bitAt bytesOf fourBlocks judgeOf valid remainder overBits reduced thirdKind headerOf contentOf
+group-lines = (refl, (refl, (refl, (refl, tt))))
+
 kind-lines : AllHold kindLines
 kind-lines = (valid-as-b, (not-valid-as-a, ((0x59, 2, refl, lit< tt), tt)))
 
@@ -36,4 +46,6 @@ join (p ∷ ps) qs h k = (h .0, join ps qs (h .1) k)
 -- all of them
 pub points-hold : AllHold points
 points-hold =
-    join (checkLines ++ groupCheckLines) kindLines (join checkLines groupCheckLines check-lines group-check-lines) kind-lines
+    join (checkLines ++ groupCheckLines ++ groupLines) kindLines
+    (join (checkLines ++ groupCheckLines) groupLines (join checkLines groupCheckLines check-lines group-check-lines) group-lines)
+    kind-lines

@@ -1,10 +1,16 @@
 -- The lines marked P in the rules, as one list; the one claim is that all of them hold.
-use Prim.Native.Nat.{ℕ, _*_, _^_, _<_}
+use Prim.Native.Nat.{ℕ, _+_, _*_, _^_, _<_}
 use mathlib.Core.Path.{_≡_}
 use mathlib.Core.List.{List, [], _∷_, _++_}
+use mathlib.Core.Bool.{false}
 use lib.Bits.{bitXor}
+use Rattle.bits.specs.Bytes.{bytesOf}
 use Rattle.blocks.specs.Block.{checkOf, Valid}
 use Rattle.blocks.specs.declared.Kind.the-variants.{A, B, C, D}
+use Rattle.groups.specs.Group.{allGoodOf}
+use Rattle.groups.specs.Content.{headerOf, contentOf, firstOf, secondOf}
+use Rattle.groups.specs.Written.{fourBlocks, groupIn}
+use Rattle.groups.specs.declared.fields.Content.the-variants.{Name0A}
 
 -- each statement of a list holds
 abbrev pub AllHold : List (Type 0) → Type 0
@@ -20,6 +26,20 @@ abbrev pub groupCheckLines : List (Type 0)
 groupCheckLines =
     (checkOf 0x1001 A ≡ 0x24E) ∷ (checkOf 0x0000 B ≡ 0x198) ∷ (checkOf 0xE0CD C ≡ 0x1E9) ∷ (checkOf 0x4142 D ≡ 0x0CA) ∷ []
 
+-- the same group, read: four good words, 0A, PI 1001, address 0, characters "AB"
+abbrev pub sample : List ℕ
+sample = 0x1001 ∷ 0x0000 ∷ 0xE0CD ∷ 0x4142 ∷ []
+
+abbrev pub sampleBytes : List ℕ
+sampleBytes =
+    bytesOf 13 (fourBlocks (0x1001 * 2 ^ 10 + 0x24E) (0x0000 * 2 ^ 10 + 0x198) (0xE0CD * 2 ^ 10 + 0x1E9) (0x4142 * 2 ^ 10 + 0x0CA))
+
+abbrev pub groupLines : List (Type 0)
+groupLines =
+    (groupIn sampleBytes ≡ allGoodOf sample) ∷ (headerOf 0x1001 0x0000 .pi ≡ 0x1001)
+    ∷ (contentOf 0x0000 0xE0CD 0x4142 ≡ Name0A (record { ta = false; ms = false; di = false }) 0 0xE0CD 0x4142)
+    ∷ (firstOf 0x4142 ∷ secondOf 0x4142 ∷ [] ≡ 65 ∷ 66 ∷ []) ∷ []
+
 -- word 0000 with check 198 is valid as B, not as A; 0FC and 198 differ within seven neighbouring bits
 abbrev pub kindLines : List (Type 0)
 kindLines =
@@ -28,4 +48,4 @@ kindLines =
 
 -- the P lines
 abbrev pub points : List (Type 0)
-points = checkLines ++ groupCheckLines ++ kindLines
+points = checkLines ++ groupCheckLines ++ groupLines ++ kindLines

@@ -19,17 +19,17 @@ spell-four s byte a =
     let f : ℕ → ℕ = bitAt s in
     let add : (i m n : ℕ) → spell f i (m + n) ≡ spell f i m * 2 ^ n + spell f (i + m) n = spell-add f (bitAt-lt s) in
     let b : (k : ℕ) → spell f (8 * a + 8 * k) 8 ≡ getD s (a + k) 0 =
-        λ k. ap (λ (i : ℕ). spell f i 8) (omega arith) ∙ spell-byte s byte (a + k) in
+    λ k. ap (λ (i : ℕ). spell f i 8) (omega arith) ∙ spell-byte s byte (a + k) in
     let one : spell f (8 * a) 16 ≡ getD s a 0 * 256 + getD s (a + 1) 0 =
-        add (8 * a) 8 8 ∙ ap₂ (λ (x y : ℕ). x * 256 + y) (spell-byte s byte a) (b 1) in
+    add (8 * a) 8 8 ∙ ap₂ (λ (x y : ℕ). x * 256 + y) (spell-byte s byte a) (b 1) in
     let two : spell f (8 * a + 16) 16 ≡ getD s (a + 2) 0 * 256 + getD s (a + 3) 0 =
-        add (8 * a + 16) 8 8 ∙ ap₂ (λ (x y : ℕ). x * 256 + y) (b 2) (ap (λ (i : ℕ). spell f i 8) (omega arith) ∙ b 3) in
+    add (8 * a + 16) 8 8 ∙ ap₂ (λ (x y : ℕ). x * 256 + y) (b 2) (ap (λ (i : ℕ). spell f i 8) (omega arith) ∙ b 3) in
     add (8 * a) 16 16 ∙ ap₂ (λ (x y : ℕ). x * 65536 + y) one two
 
 -- the block at place p of the first group
 pub block-in-bytes : (s : List ℕ) → Bytes s → (p : ℕ) → p < 4
     → ((getD s (3 * p) 0 * 256 + getD s (3 * p + 1) 0) * 65536 + (getD s (3 * p + 2) 0 * 256 + getD s (3 * p + 3) 0)) / 2 ^ (6 - 2 * p)
-      % 67108864 ≡ blockIn s p
+    % 67108864 ≡ blockIn s p
 unfolding blockIn
 block-in-bytes s byte p h =
     let n : 32 ≡ 2 * p + 26 + (6 - 2 * p) = omega arith in

@@ -42,8 +42,10 @@ module _ (w2 w3 w4 : ℕ) where
       → (w2 / 2 ^ 11 ≡ 8 → ⊥) → contentOf w2 w3 w4 ≡ Other
   unfolding contentOf
   content-other a b c d e =
-      rw (ne-eqb (typeOf w2) 0 (λ t. ⊎-elim (λ v. a (omega arith)) (λ v. b (omega arith)) (version-is w2)),
-          ne-eqb (typeOf w2) 2 (λ t. ⊎-elim (λ v. c (omega arith)) (λ v. d (omega arith)) (version-is w2)))
+      rw (
+        ne-eqb (typeOf w2) 0 (λ t. ⊎-elim (λ v. a (omega arith)) (λ v. b (omega arith)) (version-is w2)),
+        ne-eqb (typeOf w2) 2 (λ t. ⊎-elim (λ v. c (omega arith)) (λ v. d (omega arith)) (version-is w2)),
+      )
       (fourth (ℕ-discrete (typeOf w2) 4))
     where
       fourth : Dec (typeOf w2 ≡ 4) → cond (eqb (typeOf w2) 4) (cond (eqb (versionOf w2) 0) Clock4A Other) Other ≡ Other

@@ -4,3 +4,4 @@ pub mod Contents
 pub mod Packing
 pub mod BlocksInBytes
 pub mod RoomLaws
+pub mod RoundTrip

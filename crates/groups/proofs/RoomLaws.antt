@@ -28,6 +28,9 @@ pub put-done : (words out bytes after : List ℕ) (at : ℕ) → at + groupSize 
     → (Done ≡ putAtOf out at) × (_≡_ {A = ℕ} 0 (cond (noRoom out at) 8 0)) × (after ≡ bufferOf words out at)
 unfolding noRoom putAtOf bufferOf
 put-done words out bytes after at h e f =
-    rw (le-ltb (length out) (at + groupSize) h)
-    (refl, refl, f ∙ ap (λ (b : List ℕ). take at out ++ take groupSize b ++ drop (at + groupSize) out) e
-        ∙ ap (λ (b : List ℕ). take at out ++ b ++ drop (at + groupSize) out) (take-all groupSize (groupBytes words) (omega (arith, length-group words))))
+    rw (le-ltb (length out) (at + groupSize) h) (
+      refl,
+      refl,
+      f ∙ ap (λ (b : List ℕ). take at out ++ take groupSize b ++ drop (at + groupSize) out) e
+          ∙ ap (λ (b : List ℕ). take at out ++ b ++ drop (at + groupSize) out) (take-all groupSize (groupBytes words) (omega (arith, length-group words))),
+    )

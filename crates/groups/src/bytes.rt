@@ -8,9 +8,9 @@ ghost use Rattle.bits.specs.Bytes.{bytesOf};
 ghost use Rattle.blocks.specs.Block.{writeOf};
 ghost use Rattle.groups.specs.Written.{blocksOf, fourBlocks, groupBytes, noRoom, putAtOf, putNumber, bufferOf};
 ghost use Rattle.groups.specs.Written.{blockIn, wordIn, judgedIn, groupIn};
+use crate::Group;
 use blocks::Judged;
 use blocks::Kind;
-use crate::Group;
 
 // Whether a group was put into a buffer.
 pub enum Put {
@@ -154,7 +154,10 @@ pub fn word_at(bytes: &[u8], number: usize) -> u16
 fn judged_in(bytes: &[u8], place: usize) -> Judged
     ensures { λ r. ⌜ r ≡ judgedIn (now (bytes .entry)) place ⌝ }
 {
-    blocks::judge(block_at(bytes, place), crate::expected(place, word_at(bytes, 1)))
+    blocks::judge(
+        block_at(bytes, place),
+        crate::expected(place, word_at(bytes, 1)),
+    )
 }
 
 // The group that the bytes begin with, filled block by block.

@@ -1,7 +1,8 @@
 // What a group says: its header, what it carries by its type, and the switches of 0A and 0B. Looks at words only.
 ghost use mathlib.Core.Path.{_≡_};
 ghost use Rattle.groups.specs.Group.{wordOf};
-ghost use Rattle.groups.specs.Content.{headerOf, switchesOf, contentOf, carriedOf, firstOf, secondOf};
+ghost use Rattle.groups.specs.Content.{headerOf, switchesOf, nameAddress, textAddress, textFlag};
+ghost use Rattle.groups.specs.Content.{contentOf, carriedOf, firstOf, secondOf};
 use crate::Group;
 
 // What words 1 and 2 say: PI, type, version, TP, PTY and the five low bits.
@@ -87,6 +88,27 @@ fn switches_from(word2: u16) -> Switches
     }
 }
 
+// Bits 1-0 of word 2 of a 0A or 0B.
+fn name_address(word2: u16) -> u8
+    ensures { λ r. ⌜ r ≡ nameAddress word2 ⌝ }
+{
+    (word2 % 4) as u8
+}
+
+// Bits 3-0 of word 2 of a 2A or 2B.
+fn text_address(word2: u16) -> u8
+    ensures { λ r. ⌜ r ≡ textAddress word2 ⌝ }
+{
+    (word2 % 16) as u8
+}
+
+// Bit 4 of word 2 of a 2A or 2B.
+fn text_flag(word2: u16) -> bool
+    ensures { λ r. ⌜ r ≡ textFlag word2 ⌝ }
+{
+    word2 / 16 % 2 == 1
+}
+
 // What words 2, 3 and 4 carry, by type and version.
 pub fn content_from(word2: u16, word3: u16, word4: u16) -> Content
     ensures { λ r. ⌜ r ≡ contentOf word2 word3 word4 ⌝ }
@@ -95,24 +117,24 @@ pub fn content_from(word2: u16, word3: u16, word4: u16) -> Content
     match kind {
         0 => Content::Name0A {
             switches: switches_from(word2),
-            address: (word2 % 4) as u8,
+            address: name_address(word2),
             af: word3,
             pair: word4,
         },
         1 => Content::Name0B {
             switches: switches_from(word2),
-            address: (word2 % 4) as u8,
+            address: name_address(word2),
             pair: word4,
         },
         4 => Content::Text2A {
-            flag: word2 / 16 % 2 == 1,
-            address: (word2 % 16) as u8,
+            flag: text_flag(word2),
+            address: text_address(word2),
             first: word3,
             second: word4,
         },
         5 => Content::Text2B {
-            flag: word2 / 16 % 2 == 1,
-            address: (word2 % 16) as u8,
+            flag: text_flag(word2),
+            address: text_address(word2),
             pair: word4,
         },
         8 => Content::Clock4A,
@@ -124,7 +146,11 @@ pub fn content_from(word2: u16, word3: u16, word4: u16) -> Content
 pub fn content_of(group: Group) -> Content
     ensures { λ r. ⌜ r ≡ contentOf (wordOf group 1) (wordOf group 2) (wordOf group 3) ⌝ }
 {
-    content_from(crate::word(group, 1), crate::word(group, 2), crate::word(group, 3))
+    content_from(
+        crate::word(group, 1),
+        crate::word(group, 2),
+        crate::word(group, 3),
+    )
 }
 
 // The switches that a group carries.

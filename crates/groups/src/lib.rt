@@ -4,8 +4,10 @@ ghost use mathlib.Core.Path.{_≡_};
 ghost use Rattle.groups.specs.Header.{thirdKind, expectedOf};
 ghost use Rattle.groups.specs.Group.{emptyOf, withBlockOf, allGoodOf, wordOf, goodOf, isAllGoodOf, countsOf};
 ghost use Rattle.groups.specs.Group.{judgedWord, judgedGood};
+
 pub mod bytes;
 pub mod fields;
+
 use blocks::Judged;
 use blocks::Kind;
 

@@ -63,7 +63,7 @@ cast-result : tie.Need-cast-result
 cast-result c = search needs
 
 returns : tie.Need-returns
-returns c = 
+returns c =
     let start = c .before .before .before .before .before in
     rw (c .byte-at4 .ensures .0, c .before .byte-at3 .ensures .0, c .before .before .byte-at2 .ensures .0, c .before .before .before .byte-at .ensures .0)
     (block-in-bytes (start .args .bytes .now) (λ i. omega (arith, c .before .before .before .before .shared-slice-known .given i)) (start .args .place) (start .pre))

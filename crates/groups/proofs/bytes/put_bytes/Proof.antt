@@ -31,7 +31,7 @@ slice-write-out : tie.Need-slice-write-out Inv-loop μ-loop
 slice-write-out c =
     let start = c .before .before in
     let same : length (c .before .loop .out) ≡ length (start .args .out .now) =
-        ap length (c .before .loop .inv .1) ∙ length-paste (start .args .out .now) (start .args .at) (start .args .t1) (c .before .loop .i) (omega arith) (omega arith) in
+    ap length (c .before .loop .inv .1) ∙ length-paste (start .args .out .now) (start .args .at) (start .args .t1) (c .before .loop .i) (omega arith) (omega arith) in
     omega arith
 
 add-i : tie.Need-add-i Inv-loop μ-loop
@@ -42,16 +42,17 @@ loop-less c = search needs
 
 loop-again : tie.Need-loop-again Inv-loop μ-loop
 loop-again c =
-    let start = c .before .before in
-    (search needs,
-    rw (c .before .loop .inv .1, add-one (c .before .loop .i))
-    (paste-suc (start .args .out .now) (start .args .at) (start .args .t1) (c .before .loop .i) 0 (omega arith) (omega arith)))
+    let start = c .before .before in (
+      search needs,
+      rw (c .before .loop .inv .1, add-one (c .before .loop .i))
+          (paste-suc (start .args .out .now) (start .args .at) (start .args .t1) (c .before .loop .i) 0 (omega arith) (omega arith)),
+    )
 
 same-length : tie.Need-same-length Inv-loop μ-loop
 same-length c =
     let start = c .before .before in
     let same : length (c .before .loop .out) ≡ length (start .args .out .now) =
-        ap length (c .before .loop .inv .1) ∙ length-paste (start .args .out .now) (start .args .at) (start .args .t1) (c .before .loop .i) (omega arith) (omega arith) in
+    ap length (c .before .loop .inv .1) ∙ length-paste (start .args .out .now) (start .args .at) (start .args .t1) (c .before .loop .i) (omega arith) (omega arith) in
     same
 
 returns : tie.Need-returns Inv-loop μ-loop
