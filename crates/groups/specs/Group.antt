@@ -1,5 +1,5 @@
 -- The group: four words of 16 bits, and a mask that says, by one yes or no for each word, which were good.
-use Prim.Native.Nat.{ℕ}
+use Prim.Native.Nat.{ℕ, _-_}
 use mathlib.Core.List.{List}
 use mathlib.Core.Bool.{Bool, true, false, cond, _&&_}
 use lib.Dec.{leb}
