@@ -9,11 +9,13 @@ use Rattle.groups.specs.Group.{withBlockOf}
 use Rattle.groups.specs.Header.{thirdKind}
 use Rattle.groups.specs.Content.{headerOf, contentOf}
 use Rattle.groups.specs.Written.{groupIn, blockIn, wordIn, fourBlocks}
+use Rattle.clock.proofs.Points.{evening-read, evening-local, date-first, date-last}
+use Rattle.frequencies.specs.Frequency.{frequencyOf}
 use Rattle.blocks.specs.Divide.{remainder, overBits, reduced}
 use Rattle.blocks.specs.Block.{checkOf, valid, Valid, judgeOf}
 use Rattle.blocks.specs.declared.Kind.the-variants.{A, B}
 use Rattle.blocks.proofs.Validity.{true-valid, valid-left}
-use Rattle.demands.specs.Points.{AllHold, checkLines, groupCheckLines, groupLines, kindLines, points}
+use Rattle.demands.specs.Points.{AllHold, checkLines, groupCheckLines, groupLines, kindLines, clockLines, frequencyLines, points}
 
 valid-as-b : Valid B 0x0000198
 unfolding valid remainder overBits reduced
@@ -38,6 +40,13 @@ group-lines = (refl, (refl, (refl, (refl, tt))))
 kind-lines : AllHold kindLines
 kind-lines = (valid-as-b, (not-valid-as-a, ((0x59, 2, refl, lit< tt), tt)))
 
+clock-lines : AllHold clockLines
+clock-lines = (evening-read, (evening-local, (date-first, (date-last, tt))))
+
+frequency-lines : AllHold frequencyLines
+unfolding frequencyOf
+frequency-lines = (refl, (refl, (refl, tt)))
+
 -- lists of lines that hold, one after the other
 join : (ps qs : List (Type 0)) → AllHold ps → AllHold qs → AllHold (ps ++ qs)
 join [] qs h k = k
@@ -46,6 +55,12 @@ join (p ∷ ps) qs h k = (h .0, join ps qs (h .1) k)
 -- all of them
 pub points-hold : AllHold points
 points-hold =
-    join (checkLines ++ groupCheckLines ++ groupLines) kindLines
-    (join (checkLines ++ groupCheckLines) groupLines (join checkLines groupCheckLines check-lines group-check-lines) group-lines)
-    kind-lines
+    let fifth = clockLines ++ frequencyLines in
+    let fourth = kindLines ++ fifth in
+    let third = groupLines ++ fourth in
+    let second = groupCheckLines ++ third in
+    join checkLines second check-lines
+    (join groupCheckLines third group-check-lines
+    (join groupLines fourth group-lines
+    (join kindLines fifth kind-lines
+    (join clockLines frequencyLines clock-lines frequency-lines))))

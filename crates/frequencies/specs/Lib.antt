@@ -1,3 +1,4 @@
+-- What AF codes and lists mean.
 pub mod Frequency
 pub mod AfList
 pub mod AfHistory

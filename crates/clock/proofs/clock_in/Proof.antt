@@ -1,0 +1,49 @@
+-- `clock::clock_in` meets its contract: quotients and remainders of a word are its bits.
+use mathlib.Core.Path.{_≡_}
+use Prim.Native.Nat.{_+_, _*_, _/_, _%_}
+use native.Mathlib.Omega.{arith}
+use Rattle.clock.specs.Words.{bits, dayIn, hourIn, halfIn, clockIn}
+use borrow.Author.Needs.{needs}
+use Rattle.clock.proofs.clock_in.Statement.{statement}
+use Rattle.clock.proofs.clock_in.Tie as tie
+
+cast-half : tie.Need-cast-half
+cast-half c = search needs
+
+cast-t6 : tie.Need-cast-t6
+cast-t6 c = search needs
+
+mul-t7 : tie.Need-mul-t7
+mul-t7 c = search needs
+
+cast-t9 : tie.Need-cast-t9
+cast-t9 c = search needs
+
+add-t10 : tie.Need-add-t10
+add-t10 c = search needs
+
+mul-t13 : tie.Need-mul-t13
+mul-t13 c = search needs
+
+add-t15 : tie.Need-add-t15
+add-t15 c = search needs
+
+cast-t16 : tie.Need-cast-t16
+cast-t16 c = search needs
+
+cast-t19 : tie.Need-cast-t19
+cast-t19 c = search needs
+
+returns : tie.Need-returns
+unfolding clockIn
+returns c =
+    let day : c .args .word2 % 4 * 32768 + c .args .word3 / 2 ≡ dayIn (c .args .word2) (c .args .word3) = omega arith in
+    let hour : c .args .word3 % 2 * 16 + c .args .word4 / 4096 ≡ hourIn (c .args .word3) (c .args .word4) =
+    omega arith in
+    let half : c .args .word4 % 32 ≡ halfIn (c .args .word4) = omega arith in
+    cc
+
+pub clock-in-spec : {M : Type 1} → statement M
+clock-in-spec =
+    tie.close
+    (tie.spec cast-half cast-t6 mul-t7 cast-t9 add-t10 mul-t13 add-t15 cast-t16 cast-t19 returns)

@@ -1,0 +1,56 @@
+-- `clock::word4` meets its contract: it is the sum of the fields at their places.
+use native.Mathlib.Omega.{arith}
+use Rattle.clock.specs.Words.{word4Of}
+use borrow.Author.Needs.{needs}
+use Rattle.clock.proofs.word4.Statement.{statement}
+use Rattle.clock.proofs.word4.Tie as tie
+
+bit-requires : tie.Need-bit-requires
+bit-requires c κs = search needs
+
+cast-result : tie.Need-cast-result
+cast-result c = search needs
+
+mul-result : tie.Need-mul-result
+mul-result c = search needs
+
+cast-result-2 : tie.Need-cast-result-2
+cast-result-2 c = search needs
+
+mul-result-2 : tie.Need-mul-result-2
+mul-result-2 c = search needs
+
+add-result : tie.Need-add-result
+add-result c = search needs
+
+mul-result-3 : tie.Need-mul-result-3
+mul-result-3 c = search needs
+
+add-result-2 : tie.Need-add-result-2
+add-result-2 c = search needs
+
+cast-result-3 : tie.Need-cast-result-3
+cast-result-3 c = search needs
+
+add-result-3 : tie.Need-add-result-3
+add-result-3 c = search needs
+
+returns : tie.Need-returns
+unfolding word4Of
+returns c = omega arith
+
+pub word4-spec : {M : Type 1} → statement M
+word4-spec =
+    tie.close
+    (tie.spec
+    bit-requires
+    cast-result
+    mul-result
+    cast-result-2
+    mul-result-2
+    add-result
+    mul-result-3
+    add-result-2
+    cast-result-3
+    add-result-3
+    returns)
