@@ -16,6 +16,7 @@ use Rattle.clock.specs.Range.{lastDay, InRange, inRange, lastPty}
 use Rattle.clock.specs.Words.{bits, dayIn, hourIn, halfIn, signOf, clockIn, readOf}
 use Rattle.clock.specs.Words.{word2Of, word3Of, word4Of, writeOf}
 use Rattle.clock.specs.Words.{plainOf, Is4A, tpIn, ptyIn, plainWord2, plainWord4}
+use Rattle.clock.proofs.Parts.{clock-same}
 use Rattle.clock.proofs.Ranges.{in-range-true}
 use Rattle.clock.proofs.Numbers.{read-at, read-nothing, write-words, write-out, write-over}
 
@@ -46,21 +47,6 @@ sign-read true true = refl
 sign-read true false = refl
 sign-read false true = refl
 sign-read false false = refl
-
--- ---- Clocks and words by their parts
-
-abbrev clockWith : ℕ → ℕ → ℕ → Bool → ℕ → Clock
-clockWith day hour minute negative half =
-    record { day = record { 0 = day }; hour = hour; minute = minute; negative = negative; half = half }
-
-clock-same : {day day′ hour hour′ minute minute′ half half′ : ℕ} {negative negative′ : Bool} →
-    day ≡ day′ →
-    hour ≡ hour′ →
-    minute ≡ minute′ →
-    negative ≡ negative′ →
-    half ≡ half′ →
-    clockWith day hour minute negative half ≡ clockWith day′ hour′ minute′ negative′ half′
-clock-same d h m n f = cc
 
 -- ---- Written, then read
 

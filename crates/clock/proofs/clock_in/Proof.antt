@@ -1,11 +1,18 @@
 -- `clock::clock_in` meets its contract: quotients and remainders of a word are its bits.
-use mathlib.Core.Path.{_≡_}
-use Prim.Native.Nat.{_+_, _*_, _/_, _%_}
+use mathlib.Core.Path.{_≡_, refl, ap}
+use mathlib.Core.Bool.{Bool, not, _&&_}
+use lib.Dec.{eqb}
+use Rattle.clock.proofs.Parts.{clock-same}
+use Prim.Native.Nat.{ℕ, _%_}
 use native.Mathlib.Omega.{arith}
-use Rattle.clock.specs.Words.{bits, dayIn, hourIn, halfIn, clockIn}
+use Rattle.clock.specs.Words.{bits, halfIn, clockIn}
 use borrow.Author.Needs.{needs}
 use Rattle.clock.proofs.clock_in.Statement.{statement}
 use Rattle.clock.proofs.clock_in.Tie as tie
+
+-- Bit 5 of word 4 is a sign where the offset is not 0.
+abbrev signed : ℕ → ℕ → Bool
+signed word4 half = eqb (bits 5 5 word4) 1 && not (eqb half 0)
 
 cast-half : tie.Need-cast-half
 cast-half c = search needs
@@ -36,12 +43,10 @@ cast-t19 c = search needs
 
 returns : tie.Need-returns
 unfolding clockIn
-returns c =
-    let day : c .args .word2 % 4 * 32768 + c .args .word3 / 2 ≡ dayIn (c .args .word2) (c .args .word3) = omega arith in
-    let hour : c .args .word3 % 2 * 16 + c .args .word4 / 4096 ≡ hourIn (c .args .word3) (c .args .word4) =
-    omega arith in
-    let half : c .args .word4 % 32 ≡ halfIn (c .args .word4) = omega arith in
-    cc
+returns c = clock-same (omega arith) (omega arith) refl (ap (signed (c .args .word4)) half) half
+  where
+    half : c .args .word4 % 32 ≡ halfIn (c .args .word4)
+    half = omega arith
 
 pub clock-in-spec : {M : Type 1} → statement M
 clock-in-spec =
