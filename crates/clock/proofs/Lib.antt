@@ -1,4 +1,5 @@
 -- The laws of the clock.
+pub mod Parts
 pub mod Ranges
 pub mod Table
 pub mod Dates
