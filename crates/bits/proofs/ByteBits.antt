@@ -36,7 +36,8 @@ pub spell-byte : (s : List ℕ) → Bytes s → (a : ℕ) → spell (bitAt s) (8
 unfolding bitAt
 spell-byte s byte a =
     let digit : (i : ℕ) → i < 8 → bitAt s (8 * a + i) ≡ getD s a 0 / 2 ^ (8 - suc i) % 2 =
-    λ i h. let p : (8 * a + i) / 8 ≡ a = omega arith in let q : 7 - (8 * a + i) % 8 ≡ 8 - suc i = omega arith in rw (p, q) in
+    λ i h. let p : (8 * a + i) / 8 ≡ a = omega arith in let q : 7 - (8 * a + i) % 8 ≡ 8 - suc i = omega arith in rw
+    (p, q) in
     spell-from (bitAt s) (8 * a) 8
     ∙ spell-digits (λ j. bitAt s (8 * a + j)) (getD s a 0) 8 digit 0 8 (omega arith)
     ∙ omega (arith, byte a)
@@ -46,7 +47,8 @@ pub spell-drop : (a : ℕ) (s : List ℕ) (i n : ℕ) → spell (bitAt (drop a s
 unfolding bitAt
 spell-drop a s i n =
     spell-cong (bitAt (drop a s)) (λ j. bitAt s (8 * a + j)) i n
-    (λ j _ _. let p : (8 * a + j) / 8 ≡ a + j / 8 = omega arith in let q : (8 * a + j) % 8 ≡ j % 8 = omega arith in rw (p, q, getD-drop a s (j / 8) 0))
+    (λ j _ _. let p : (8 * a + j) / 8 ≡ a + j / 8 = omega arith in let q : (8 * a + j) % 8 ≡ j % 8 = omega arith in
+    rw (p, q, getD-drop a s (j / 8) 0))
     ∙ spell-moved (bitAt s) (8 * a) i n
 
 -- bytes behind are not read
@@ -101,5 +103,6 @@ bytesOf-spell n s byte len =
     ext-getD 0 _ _ (length-bytesOf n _ ∙ sym len)
     (λ i l. let h : i < n = rw (length-bytesOf n (spell (bitAt s) 0 (8 * n))) at l in
     let e : 8 * n ≡ 8 * i + 8 + 8 * (n - suc i) = omega arith in
-    getD-bytesOf n _ i h ∙ rw e (sym (rw (zero-add (8 * i)) at (spell-part (bitAt s) (bitAt-lt s) 0 (8 * i) 8 (8 * (n - suc i)))))
+    getD-bytesOf n _ i h ∙ rw e (sym (rw (zero-add (8 * i)) at
+    (spell-part (bitAt s) (bitAt-lt s) 0 (8 * i) 8 (8 * (n - suc i)))))
     ∙ spell-byte s byte i)

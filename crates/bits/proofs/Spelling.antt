@@ -80,8 +80,10 @@ module _ (f : ℕ → ℕ) (bits : Bits f) where
   pub spell-slide : (i n : ℕ) → spell f (i + 1) n ≡ (spell f i n * 2 + f (i + n)) % 2 ^ n
   unfolding spell
   spell-slide i n =
-      sym (ap (λ (m : ℕ). spell f i m % 2 ^ n) (sym (one-add n)) ∙ rw (spell-add i 1 n) (low (spell f i 1) n (spell-lt (i + 1) n)))
+      sym (ap (λ (m : ℕ). spell f i m % 2 ^ n) (sym (one-add n)) ∙ rw (spell-add i 1 n)
+      (low (spell f i 1) n (spell-lt (i + 1) n)))
 
 -- a history that grows at its end: what was spelled stays
-pub spell-more : (bs : List ℕ) (b i n : ℕ) → i + n ≤ length bs → spell (listed (bs ++ b ∷ [])) i n ≡ spell (listed bs) i n
+pub spell-more : (bs : List ℕ) (b i n : ℕ) → i + n ≤ length bs → spell (listed (bs ++ b ∷ [])) i n ≡ spell
+    (listed bs) i n
 spell-more bs b i n h = spell-cong _ _ i n (λ j _ l. List·getD-append bs (b ∷ []) 0 j (omega arith))

@@ -1,6 +1,7 @@
--- The damage law: a block valid as a kind, then damaged, is not valid as that kind. The turned bits spell the sum of the two blocks.
--- Within ten neighbours they are a number below 1024 times a power of x, of which the odd divisor leaves something; two bits are
--- x^d + 1 times such a power, and no d below 26 makes that a multiple, which is tried out once.
+-- The damage law: a block valid as a kind, then damaged, is not valid as that kind. The turned bits spell the sum of
+-- the two blocks. Within ten neighbours they are a number below 1024 times a power of x, of which the odd divisor
+-- leaves something; two bits are x^d + 1 times such a power, and no d below 26 makes that a multiple, which is tried
+-- out once.
 use Prim.Native.Nat.{ℕ, zero, suc, _+_, _*_, _-_, _/_, _%_, _^_, _<_, _≤_}
 use mathlib.Core.Path.{_≡_, refl, sym, ap, ap₂, _∙_}
 use mathlib.Core.Bool.{Bool, true, false, not, false≢true}
@@ -40,7 +41,8 @@ unfolding apart
 two-apart i j l h z =
     let d : ℕ = j - suc i in
     let e : (2 ^ suc d + 1) * 2 ^ i ≡ 2 ^ j + 2 ^ i =
-    add-mul (2 ^ suc d) 1 (2 ^ i) ∙ ap₂ (λ (x y : ℕ). x + y) (sym (pow-add 2 (suc d) i) ∙ ap (λ (n : ℕ). 2 ^ n) (omega arith)) (one-mul (2 ^ i)) in
+    add-mul (2 ^ suc d) 1 (2 ^ i) ∙ ap₂ (λ (x y : ℕ). x + y)
+    (sym (pow-add 2 (suc d) i) ∙ ap (λ (n : ℕ). 2 ^ n) (omega arith)) (one-mul (2 ^ i)) in
     let none : remainder (2 ^ suc d + 1) ≡ 0 = shifted-zero (2 ^ suc d + 1) i (ap remainder e ∙ z) in
     let test : apart d ≡ true = below-at apart (blockBits - 1) all-apart d (omega arith) in
     let same : false ≡ true = sym (ap not (eq-eqb (remainder (2 ^ suc d + 1)) 0 none)) ∙ test in false≢true same
@@ -99,8 +101,10 @@ module _ (d : ℕ → ℕ) (bits : Bits d) where
       let off : (j : ℕ) → j < a + m + c → (a ≤ j → j < a + m → ⊥) → d j ≡ 0 =
       λ j l out. ⊎-elim (λ z. z) (λ o. absurd (out (inside j l o .0) (inside j l o .1))) (bit-is j) in
       let before : spell d 0 a ≡ 0 = spell-zeros d 0 a (λ j _ l. off j (omega arith) (λ p q. omega arith)) in
-      let behind : spell d (0 + (a + m)) c ≡ 0 = spell-zeros d (0 + (a + m)) c (λ j p l. off j (omega arith) (λ x y. omega arith)) in
-      rw (spell-add d bits 0 (a + m) c, behind, spell-add d bits 0 a m, before, zero-add a, zero-mul (2 ^ m)) (omega arith)
+      let behind : spell d (0 + (a + m)) c ≡ 0 = spell-zeros d (0 + (a + m)) c
+      (λ j p l. off j (omega arith) (λ x y. omega arith)) in
+      rw (spell-add d bits 0 (a + m) c, behind, spell-add d bits 0 a m, before, zero-add a, zero-mul (2 ^ m))
+      (omega arith)
 
 -- ---- the law
 
@@ -118,7 +122,8 @@ module _ (k : Kind) (f g : ℕ → ℕ) (bf : Bits f) (bg : Bits g) where
   turned-ones (suc n) = rw (turned-ones n)
 
   -- two blocks that are valid as the same kind differ by a multiple
-  multiple-between : Valid k (spell f 0 blockBits) → Valid k (spell g 0 blockBits) → remainder (spell turn 0 blockBits) ≡ 0
+  multiple-between : Valid k (spell f 0 blockBits) → Valid k (spell g 0 blockBits) → remainder
+      (spell turn 0 blockBits) ≡ 0
   multiple-between v w =
       ap remainder (sym (spell-xor f g bf bg 0 blockBits)) ∙ remainder-xor (spell f 0 blockBits) (spell g 0 blockBits)
       ∙ ap₂ bitXor (valid-left k (spell f 0 blockBits) v) (valid-left k (spell g 0 blockBits) w) ∙ xor-self (offsetOf k)
@@ -136,7 +141,8 @@ module _ (k : Kind) (f g : ℕ → ℕ) (bf : Bits f) (bg : Bits g) where
       ∙ shifted-zero (spell turn a neighbours) c (ap remainder (sym moved) ∙ z) in
       turned-ones blockBits
       ∙ no-ones turn turn-bits blockBits
-      (λ j l. zeros-spelled turn 0 blockBits (moved ∙ ap (λ (x : ℕ). x * 2 ^ c) none ∙ zero-mul (2 ^ c)) j (omega arith) (omega arith))
+      (λ j l. zeros-spelled turn 0 blockBits (moved ∙ ap (λ (x : ℕ). x * 2 ^ c) none ∙ zero-mul (2 ^ c)) j
+      (omega arith) (omega arith))
 
   turned-differs : (j : ℕ) → turn j ≡ 1 → f j ≡ g j → ⊥
   turned-differs j o e =
@@ -153,13 +159,15 @@ module _ (k : Kind) (f g : ℕ → ℕ) (bf : Bits f) (bg : Bits g) where
       late h =
           let e : turned f g blockBits ≡ 0 =
           within-none (blockBits - neighbours) 0 (omega arith)
-          (λ j l o. let p : (a ≤ j) × (j < a + neighbours) = inside j (omega arith) (turned-differs j o) in (omega arith, omega arith)) none in
+          (λ j l o. let p : (a ≤ j) × (j < a + neighbours) = inside j (omega arith) (turned-differs j o) in
+          (omega arith, omega arith)) none in
           omega arith
 
       early : a ≤ blockBits - neighbours → ⊥
       early h =
           let e : turned f g blockBits ≡ 0 =
-          within-none a (blockBits - neighbours - a) (omega arith) (λ j l o. inside j (omega arith) (turned-differs j o)) none in
+          within-none a (blockBits - neighbours - a) (omega arith)
+          (λ j l o. inside j (omega arith) (turned-differs j o)) none in
           omega arith
   damage-shows (two e) v w =
       let p = two-set turn turn-bits blockBits (sym (turned-ones blockBits) ∙ e) in

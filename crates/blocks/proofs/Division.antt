@@ -1,5 +1,6 @@
--- Laws of the long division: every number is a multiple of the divisor plus its remainder, the remainder is below 1024, no other
--- number below 1024 would do, and remainders of sums are sums. Each is an induction on a number's binary digits.
+-- Laws of the long division: every number is a multiple of the divisor plus its remainder, the remainder is below
+-- 1024, no other number below 1024 would do, and remainders of sums are sums. Each is an induction on a number's
+-- binary digits.
 use Prim.Native.Nat.{ℕ, zero, suc, _+_, _*_, _/_, _%_, _^_, _<_, _≤_}
 use mathlib.Core.Path.{_≡_, refl, sym, ap, ap₂, _∙_}
 use mathlib.Core.Logic.{_⊎_, ⊎-elim}
@@ -65,7 +66,8 @@ top-sum r s x y p q = xor-shr r s 10 ∙ ap₂ bitXor p q
 -- the reduction of a sum is the sum of the reductions: by bit 10 of each
 reduced-xor : (r s : ℕ) → r < 2048 → s < 2048 → reduced (bitXor r s) ≡ bitXor (reduced r) (reduced s)
 reduced-xor r s p q =
-    ⊎-elim (λ a. ⊎-elim (low-low a) (low-high a) (lt-or-le s 1024)) (λ a. ⊎-elim (high-low a) (high-high a) (lt-or-le s 1024))
+    ⊎-elim (λ a. ⊎-elim (low-low a) (low-high a) (lt-or-le s 1024))
+    (λ a. ⊎-elim (high-low a) (high-high a) (lt-or-le s 1024))
     (lt-or-le r 1024)
   where
     low-low : r < 1024 → s < 1024 → reduced (bitXor r s) ≡ bitXor (reduced r) (reduced s)
@@ -105,14 +107,16 @@ pub remainder-lt : (n : ℕ) → remainder n < 1024
 unfolding remainder overBits
 remainder-lt =
     bin-ind (λ (n : ℕ). remainder n < 1024) (omega arith)
-    (λ n before. rw (remainder-step n) (reduced-lt (remainder (n / 2) * 2 + n % 2) (omega (arith, mod-lt n {m = 2} (omega arith)))))
+    (λ n before. rw (remainder-step n) (reduced-lt (remainder (n / 2) * 2 + n % 2)
+    (omega (arith, mod-lt n {m = 2} (omega arith)))))
 
 -- what is below 1024 is its own remainder
 pub remainder-small : (n : ℕ) → n < 1024 → remainder n ≡ n
 unfolding remainder overBits
 remainder-small =
     bin-ind (λ (n : ℕ). n < 1024 → remainder n ≡ n) (λ h. refl)
-    (λ n before h. remainder-step n ∙ ap (λ (x : ℕ). reduced (x * 2 + n % 2)) (before (omega arith)) ∙ ap reduced (div-add-mod' n 2) ∙ reduced-small n h)
+    (λ n before h. remainder-step n ∙ ap (λ (x : ℕ). reduced (x * 2 + n % 2)) (before (omega arith)) ∙ ap reduced
+    (div-add-mod' n 2) ∙ reduced-small n h)
 
 -- the remainder of a sum is the sum of the remainders
 pub remainder-xor : (a b : ℕ) → remainder (bitXor a b) ≡ bitXor (remainder a) (remainder b)
@@ -125,7 +129,8 @@ remainder-xor =
     remainder-step (bitXor a b)
     ∙ ap₂ (λ (x y : ℕ). reduced (remainder x * 2 + y)) (xor-shr a b 1) (xor-mod a b 1)
     ∙ ap (λ (x : ℕ). reduced (x * 2 + bitXor (a % 2) (b % 2))) (before (b / 2))
-    ∙ ap reduced (sym (xor-block 1 (remainder (a / 2)) (remainder (b / 2)) (a % 2) (b % 2) (mod-lt a (omega arith)) (mod-lt b (omega arith))))
+    ∙ ap reduced (sym (xor-block 1 (remainder (a / 2)) (remainder (b / 2)) (a % 2) (b % 2) (mod-lt a (omega arith))
+    (mod-lt b (omega arith))))
     ∙ reduced-xor (remainder (a / 2) * 2 + a % 2) (remainder (b / 2) * 2 + b % 2) (omega arith) (omega arith)
     ∙ sym (ap₂ bitXor (remainder-step a) (remainder-step b)))
 
@@ -198,7 +203,11 @@ zero-of-multiple n m = ap remainder (m .1) ∙ remainder-times (m .0)
 
 -- what leaves nothing is a multiple
 pub multiple-of-zero : (n : ℕ) → remainder n ≡ 0 → Multiple n
-multiple-of-zero n z = let d = division n in (d .0, d .1 ∙ ap (bitXor (times (d .0) divisor)) z ∙ xor-zero-r (times (d .0) divisor))
+multiple-of-zero n z = let d = division n in (
+  d .0,
+  d .1 ∙ ap (bitXor (times (d .0) divisor)) z ∙ xor-zero-r
+      (times (d .0) divisor),
+)
 
 -- no other number below 1024 would do
 pub division-only : (n q r : ℕ) → n ≡ bitXor (times q divisor) r → r < 1024 → r ≡ remainder n
@@ -211,7 +220,8 @@ division-only n q r e h =
 twice-zero : (n : ℕ) → remainder (n * 2) ≡ 0 → remainder n ≡ 0
 twice-zero n z =
     ⊎-elim (λ h. let e : remainder n * 2 + 0 ≡ 0 = sym (reduced-small (remainder n * 2 + 0) h) ∙ none in omega arith)
-    (λ h. let e : remainder n * 2 + 0 ≡ divisor = xor-equal (remainder n * 2 + 0) divisor (sym (reduced-large (remainder n * 2 + 0) h) ∙ none) in
+    (λ h. let e : remainder n * 2 + 0 ≡ divisor = xor-equal (remainder n * 2 + 0) divisor
+    (sym (reduced-large (remainder n * 2 + 0) h) ∙ none) in
     omega arith)
     (lt-or-le (remainder n * 2 + 0) 1024)
   where
@@ -221,4 +231,5 @@ twice-zero n z =
 pub shifted-zero : (n k : ℕ) → remainder (n * 2 ^ k) ≡ 0 → remainder n ≡ 0
 shifted-zero n zero z = ap remainder (sym (mul-one n)) ∙ z
 shifted-zero n (suc k) z =
-    shifted-zero n k (twice-zero (n * 2 ^ k) (ap remainder (mul-assoc n (2 ^ k) 2 ∙ ap (λ (x : ℕ). n * x) (sym (pow-suc 2 k))) ∙ z))
+    shifted-zero n k (twice-zero (n * 2 ^ k) (ap remainder (mul-assoc n (2 ^ k) 2 ∙ ap (λ (x : ℕ). n * x)
+    (sym (pow-suc 2 k))) ∙ z))

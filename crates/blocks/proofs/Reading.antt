@@ -1,5 +1,6 @@
--- Laws of reading and judging: what each answers, exactly when; what is written reads back, and what reads is what was written.
--- Reading goes by the remainder alone (`fitting`); each law is then five cases or one induction over the kinds.
+-- Laws of reading and judging: what each answers, exactly when; what is written reads back, and what reads is what
+-- was written. Reading goes by the remainder alone (`fitting`); each law is then five cases or one induction over the
+-- kinds.
 use Prim.Native.Nat.{ℕ, _+_, _*_, _/_, _%_, _^_, _<_, _≤_}
 use mathlib.Core.Path.{_≡_, refl, sym, ap, ap₂, _∙_}
 use mathlib.Core.List.{List, [], _∷_}
@@ -10,7 +11,16 @@ use lib.Dec.{eqb, leb}
 use borrow.Author.Tests.{eq-eqb, ne-eqb, eqb-true, eqb-false, le-leb, lt-leb, leb-true, leb-false}
 use Rattle.blocks.specs.Divide.{remainder}
 use Rattle.blocks.specs.Block.{kinds, offsetOf, writeOf, Valid, valid, wordOf, limit, among, readOf, judgeOf}
-use Rattle.blocks.specs.Answers.{foundNumber, foundValues, judgedNumber, judgedValues, lengthNumber, isOffset, readValues, judgeValues}
+use Rattle.blocks.specs.Answers.{
+  foundNumber,
+  foundValues,
+  judgedNumber,
+  judgedValues,
+  lengthNumber,
+  isOffset,
+  readValues,
+  judgeValues,
+}
 use Rattle.blocks.specs.declared.Kind.{Kind}
 use Rattle.blocks.specs.declared.Kind.the-variants.{A, B, C, CPrime, D}
 use Rattle.blocks.specs.declared.Found.{Found}
@@ -76,7 +86,8 @@ found-valid n w k e = ⊎-elim short long (lt-or-le n limit)
   where
     short : n < limit → (n < limit) × Valid k n × (wordOf n ≡ w)
     short h =
-        let f = found-fits kinds (wordOf n) (remainder n) w k (sym (read-short n h) ∙ e) in (h, left-valid k n (f .0), f .1)
+        let f = found-fits kinds (wordOf n) (remainder n) w k (sym (read-short n h) ∙ e) in
+        (h, left-valid k n (f .0), f .1)
 
     long : limit ≤ n → (n < limit) × Valid k n × (wordOf n ≡ w)
     long h = let t : readOf n ≡ TooLong = read-long n h in let z : _≡_ {A = ℕ} 0 1 = cc in absurd (omega arith)
@@ -95,8 +106,11 @@ pub nothing-valid : (n : ℕ) → readOf n ≡ Nothing → (n < limit) × ((k : 
 nothing-valid n e = ⊎-elim short long (lt-or-le n limit)
   where
     short : n < limit → (n < limit) × ((k : Kind) → Valid k n → ⊥)
-    short h =
-        (h, λ k v. let t : readOf n ≡ Block (wordOf n) k = read-valid n k h v in let z : _≡_ {A = ℕ} 0 1 = cc in omega arith)
+    short h = (
+      h,
+      λ k v. let t : readOf n ≡ Block (wordOf n) k = read-valid n k h v in let z : _≡_ {A = ℕ} 0 1 = cc in
+          omega arith,
+    )
 
     long : limit ≤ n → (n < limit) × ((k : Kind) → Valid k n → ⊥)
     long h = let t : readOf n ≡ TooLong = read-long n h in let z : _≡_ {A = ℕ} 0 1 = cc in absurd (omega arith)
@@ -196,7 +210,8 @@ pub judge-values : (n : ℕ) (k : Kind) → judgedValues (judgeOf n k) ≡ judge
 unfolding judgeOf judgeValues
 judge-values n k = rw (valid-eqb k n) (told (leb limit n) (eqb (remainder n) (offsetOf k)))
   where
-    told : (t u : Bool) → judgedValues (cond t Refused (cond u (Good (wordOf n)) Bad)) ≡ cond t [] (cond u (wordOf n ∷ []) [])
+    told : (t u : Bool) → judgedValues (cond t Refused (cond u (Good (wordOf n)) Bad)) ≡ cond t []
+        (cond u (wordOf n ∷ []) [])
     told true u = refl
     told false true = refl
     told false false = refl
@@ -221,7 +236,8 @@ write-judge n w k e =
 
 -- ---- what the functions promise, from the equation alone
 
-pub read-settled : (n : ℕ) (f : Found) → f ≡ readOf n → (f ≡ readOf n) × (foundNumber f ≡ lengthNumber n) × (foundValues f ≡ readValues n)
+pub read-settled : (n : ℕ) (f : Found) → f ≡ readOf n → (f ≡ readOf n) × (foundNumber f ≡ lengthNumber n) ×
+    (foundValues f ≡ readValues n)
 read-settled n f e = (e, ap foundNumber e ∙ read-number n, ap foundValues e ∙ read-values n)
 
 pub judge-settled : (n : ℕ) (k : Kind) (j : Judged) → j ≡ judgeOf n k

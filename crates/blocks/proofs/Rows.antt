@@ -32,7 +32,8 @@ upper w k = w / 2 ^ k * 2 ^ (k + 10)
 upper-above : (w k : ℕ) → upper w (suc k) ≡ w / 2 ^ k / 2 * 2 * 2 ^ (k + 10)
 upper-above w k =
     let h : w / 2 ^ suc k ≡ w / 2 ^ k / 2 = ap (λ (n : ℕ). w / 2 ^ n) (sym (add-one k)) ∙ sym (shr-shr w k 1) in
-    let p : 2 ^ (suc k + 10) ≡ 2 * 2 ^ (k + 10) = ap (λ (n : ℕ). 2 ^ n) (suc-add k 10) ∙ pow-suc 2 (k + 10) ∙ mul-comm (2 ^ (k + 10)) 2 in
+    let p : 2 ^ (suc k + 10) ≡ 2 * 2 ^ (k + 10) = ap (λ (n : ℕ). 2 ^ n) (suc-add k 10) ∙ pow-suc 2 (k + 10)
+    ∙ mul-comm (2 ^ (k + 10)) 2 in
     rw (h, p) (sym (mul-assoc (w / 2 ^ k / 2) 2 (2 ^ (k + 10))))
 
 -- one bit more: it is 0 and nothing is added
@@ -70,4 +71,5 @@ pub remainder-word : (n : ℕ) → bitXor (remainder (n / 1024 * 1024)) (n % 102
 remainder-word n =
     let l : n % 1024 < 1024 = mod-lt n (omega arith) in
     ap (bitXor (remainder (n / 1024 * 1024))) (sym (remainder-small (n % 1024) l))
-    ∙ sym (remainder-xor (n / 1024 * 1024) (n % 1024)) ∙ ap remainder (xor-shifted (n / 1024) 10 (n % 1024) l ∙ split n 10)
+    ∙ sym (remainder-xor (n / 1024 * 1024) (n % 1024)) ∙ ap remainder
+    (xor-shifted (n / 1024) 10 (n % 1024) l ∙ split n 10)

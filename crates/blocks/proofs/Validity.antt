@@ -1,4 +1,5 @@
--- What validity is: the test and the rule's words agree, a valid block leaves just the offset of its kind, at most one kind fits.
+-- What validity is: the test and the rule's words agree, a valid block leaves just the offset of its kind, at most
+-- one kind fits.
 use Prim.Native.Nat.{ℕ, _+_, _*_, _/_, _%_, _^_, _<_, _≤_}
 use mathlib.Core.Path.{_≡_, refl, sym, ap, ap₂, subst, _∙_}
 use mathlib.Core.Bool.{Bool, true, false, cond}
@@ -13,7 +14,13 @@ use Rattle.blocks.specs.Divide.{remainder}
 use Rattle.blocks.specs.Block.{offsetOf, checkOf, writeOf, Valid, valid, wordOf, limit}
 use Rattle.blocks.specs.declared.Kind.{Kind}
 use Rattle.blocks.specs.declared.Kind.the-variants.{A, B, C, CPrime, D}
-use Rattle.blocks.proofs.Division.{remainder-xor, remainder-small, remainder-lt, zero-of-multiple, multiple-of-zero}
+use Rattle.blocks.proofs.Division.{
+  remainder-xor,
+  remainder-small,
+  remainder-lt,
+  zero-of-multiple,
+  multiple-of-zero,
+}
 use Rattle.blocks.proofs.Rows.{remainder-word}
 
 -- what holds of each of the five holds of any
@@ -36,7 +43,8 @@ offset-lt D = lit< tt
 
 -- the kind that has an offset
 kindWith : ℕ → Kind
-kindWith r = cond (eqb r (offsetOf A)) A (cond (eqb r (offsetOf B)) B (cond (eqb r (offsetOf C)) C (cond (eqb r (offsetOf CPrime)) CPrime D)))
+kindWith r = cond (eqb r (offsetOf A)) A (cond (eqb r (offsetOf B)) B
+    (cond (eqb r (offsetOf C)) C (cond (eqb r (offsetOf CPrime)) CPrime D)))
 
 kind-with : (k : Kind) → kindWith (offsetOf k) ≡ k
 unfolding kindWith
@@ -54,7 +62,8 @@ offset-injective k l e = sym (kind-with k) ∙ ap kindWith e ∙ kind-with l
 
 -- taking the offset off the number takes it off the remainder
 remainder-off : (k : Kind) (n : ℕ) → remainder (bitXor n (offsetOf k)) ≡ bitXor (remainder n) (offsetOf k)
-remainder-off k n = remainder-xor n (offsetOf k) ∙ ap (bitXor (remainder n)) (remainder-small (offsetOf k) (offset-lt k))
+remainder-off k n = remainder-xor n (offsetOf k) ∙ ap (bitXor (remainder n))
+    (remainder-small (offsetOf k) (offset-lt k))
 
 -- the remainder of a valid block is the offset of its kind
 pub valid-left : (k : Kind) (n : ℕ) → Valid k n → remainder n ≡ offsetOf k
@@ -76,7 +85,8 @@ valid-eqb k n = told (ℕ-discrete (remainder n) (offsetOf k))
         eq-eqb (remainder (bitXor n (offsetOf k))) 0 (zero-of-multiple (bitXor n (offsetOf k)) (left-valid k n e))
         ∙ sym (eq-eqb (remainder n) (offsetOf k) e)
     told (no d) =
-        ne-eqb (remainder (bitXor n (offsetOf k))) 0 (λ z. d (valid-left k n (multiple-of-zero (bitXor n (offsetOf k)) z)))
+        ne-eqb (remainder (bitXor n (offsetOf k))) 0 (λ z. d
+        (valid-left k n (multiple-of-zero (bitXor n (offsetOf k)) z)))
         ∙ sym (ne-eqb (remainder n) (offsetOf k) d)
 
 -- the test is passed exactly by what is valid

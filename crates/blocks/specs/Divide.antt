@@ -1,5 +1,5 @@
--- Polynomials over bits, as numbers: bit i of the number is the coefficient of x^i. Their sum is the bitwise sum, `bitXor`;
--- here are their product and the long division by the divisor of the rules.
+-- Polynomials over bits, as numbers: bit i of the number is the coefficient of x^i. Their sum is the bitwise sum,
+-- `bitXor`; here are their product and the long division by the divisor of the rules.
 use Prim.Native.Nat.{ℕ, zero, suc, _+_, _*_, _/_, _%_}
 use mathlib.Core.Path.{_≡_}
 use mathlib.Core.Bool.{cond}

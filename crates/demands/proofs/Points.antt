@@ -15,7 +15,16 @@ use Rattle.blocks.specs.Divide.{remainder, overBits, reduced}
 use Rattle.blocks.specs.Block.{checkOf, valid, Valid, judgeOf}
 use Rattle.blocks.specs.declared.Kind.the-variants.{A, B}
 use Rattle.blocks.proofs.Validity.{true-valid, valid-left}
-use Rattle.demands.specs.Points.{AllHold, checkLines, groupCheckLines, groupLines, kindLines, clockLines, frequencyLines, points}
+use Rattle.demands.specs.Points.{
+  AllHold,
+  checkLines,
+  groupCheckLines,
+  groupLines,
+  kindLines,
+  clockLines,
+  frequencyLines,
+  points,
+}
 
 valid-as-b : Valid B 0x0000198
 unfolding valid remainder overBits reduced
@@ -34,7 +43,8 @@ unfolding checkOf remainder overBits reduced
 group-check-lines = (refl, (refl, (refl, (refl, tt))))
 
 group-lines : AllHold groupLines
-unfolding groupIn withBlockOf blockIn wordIn spell bitAt bytesOf fourBlocks judgeOf valid remainder overBits reduced thirdKind headerOf contentOf
+unfolding groupIn withBlockOf blockIn wordIn spell bitAt bytesOf fourBlocks judgeOf valid remainder overBits reduced
+    thirdKind headerOf contentOf
 group-lines = (refl, (refl, (refl, (refl, tt))))
 
 kind-lines : AllHold kindLines

@@ -33,7 +33,8 @@ checkLines = (checkOf 0x0000 A ≡ 0x0FC) ∷ (checkOf 0x0001 A ≡ 0x145) ∷ (
 -- group 1001/24E, 0000/198, E0CD/1E9, 4142/0CA (word/check)
 abbrev pub groupCheckLines : List (Type 0)
 groupCheckLines =
-    (checkOf 0x1001 A ≡ 0x24E) ∷ (checkOf 0x0000 B ≡ 0x198) ∷ (checkOf 0xE0CD C ≡ 0x1E9) ∷ (checkOf 0x4142 D ≡ 0x0CA) ∷ []
+    (checkOf 0x1001 A ≡ 0x24E) ∷ (checkOf 0x0000 B ≡ 0x198) ∷ (checkOf 0xE0CD C ≡ 0x1E9) ∷
+    (checkOf 0x4142 D ≡ 0x0CA) ∷ []
 
 -- the same group, read: four good words, 0A, PI 1001, address 0, characters "AB"
 abbrev pub sample : List ℕ
@@ -41,7 +42,8 @@ sample = 0x1001 ∷ 0x0000 ∷ 0xE0CD ∷ 0x4142 ∷ []
 
 abbrev pub sampleBytes : List ℕ
 sampleBytes =
-    bytesOf 13 (fourBlocks (0x1001 * 2 ^ 10 + 0x24E) (0x0000 * 2 ^ 10 + 0x198) (0xE0CD * 2 ^ 10 + 0x1E9) (0x4142 * 2 ^ 10 + 0x0CA))
+    bytesOf 13 (fourBlocks (0x1001 * 2 ^ 10 + 0x24E) (0x0000 * 2 ^ 10 + 0x198) (0xE0CD * 2 ^ 10 + 0x1E9)
+    (0x4142 * 2 ^ 10 + 0x0CA))
 
 abbrev pub groupLines : List (Type 0)
 groupLines =
@@ -70,7 +72,8 @@ clockLines =
 
 -- code 1: 87,600 kHz. Code 204: 107,900. Code 205: answer 11
 abbrev pub frequencyLines : List (Type 0)
-frequencyLines = (frequencyOf 1 ≡ Khz 87600) ∷ (frequencyOf 204 ≡ Khz 107900) ∷ (frequencyNumber (frequencyOf 205) ≡ 11) ∷ []
+frequencyLines = (frequencyOf 1 ≡ Khz 87600) ∷ (frequencyOf 204 ≡ Khz 107900) ∷
+    (frequencyNumber (frequencyOf 205) ≡ 11) ∷ []
 
 -- the P lines
 abbrev pub points : List (Type 0)

@@ -1,4 +1,5 @@
--- What a group carries, by its type and version together: word 2 / 2048 is 0 for 0A, 1 for 0B, 4 for 2A, 5 for 2B, 8 for 4A.
+-- What a group carries, by its type and version together: word 2 / 2048 is 0 for 0A, 1 for 0B, 4 for 2A, 5 for 2B, 8
+-- for 4A.
 use Prim.Native.Nat.{ℕ, _/_, _%_, _^_}
 use mathlib.Core.Path.{_≡_, refl}
 use mathlib.Core.Bool.{Bool, true, false, cond}

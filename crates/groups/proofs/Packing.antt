@@ -13,13 +13,16 @@ cons p q = λ i. p i ∷ q i
 abbrev pub thirteen : ℕ → ℕ → List ℕ
 thirteen high low =
     high / 2 ^ 44 % 256 ∷ high / 2 ^ 36 % 256 ∷ high / 2 ^ 28 % 256 ∷ high / 2 ^ 20 % 256 ∷ high / 2 ^ 12 % 256
-    ∷ high / 2 ^ 4 % 256 ∷ (high % 16 * 16 + low / 2 ^ 48) % 256 ∷ low / 2 ^ 40 % 256 ∷ low / 2 ^ 32 % 256 ∷ low / 2 ^ 24 % 256
+    ∷ high / 2 ^ 4 % 256 ∷ (high % 16 * 16 + low / 2 ^ 48) % 256 ∷ low / 2 ^ 40 % 256 ∷ low / 2 ^ 32 % 256 ∷ low / 2
+    ^ 24 % 256
     ∷ low / 2 ^ 16 % 256 ∷ low / 2 ^ 8 % 256 ∷ low % 256 ∷ []
 
 pub thirteen-bytes : (a b c d : ℕ) → a < 2 ^ 26 → b < 2 ^ 26 → c < 2 ^ 26 → d < 2 ^ 26
     → thirteen (a * 2 ^ 26 + b) (c * 2 ^ 26 + d) ≡ bytesOf 13 (fourBlocks a b c d)
 unfolding bytesOf fourBlocks
 thirteen-bytes a b c d p q r s =
-    cons (omega arith) (cons (omega arith) (cons (omega arith) (cons (omega arith) (cons (omega arith) (cons (omega arith)
-    (cons (omega arith) (cons (omega arith) (cons (omega arith) (cons (omega arith) (cons (omega arith) (cons (omega arith)
+    cons (omega arith) (cons (omega arith) (cons (omega arith)
+    (cons (omega arith) (cons (omega arith) (cons (omega arith)
+    (cons (omega arith) (cons (omega arith) (cons (omega arith)
+    (cons (omega arith) (cons (omega arith) (cons (omega arith)
     (cons (omega arith) refl))))))))))))

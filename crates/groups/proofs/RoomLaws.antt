@@ -14,7 +14,8 @@ use Rattle.groups.specs.declared.bytes.Put.the-variants.{Done, TooShort}
 -- a group's bytes are thirteen
 pub length-group : (words : List ℕ) → length (groupBytes words) ≡ groupSize
 unfolding groupBytes
-length-group words = length-bytesOf groupSize (fourBlocks (blockOf words 0) (blockOf words 1) (blockOf words 2) (blockOf words 3))
+length-group words = length-bytesOf groupSize (fourBlocks (blockOf words 0) (blockOf words 1) (blockOf words 2)
+    (blockOf words 3))
 
 -- without room
 pub put-short : (words out : List ℕ) (at : ℕ) → length out < at + groupSize
@@ -32,5 +33,6 @@ put-done words out bytes after at h e f =
       refl,
       refl,
       f ∙ ap (λ (b : List ℕ). take at out ++ take groupSize b ++ drop (at + groupSize) out) e
-          ∙ ap (λ (b : List ℕ). take at out ++ b ++ drop (at + groupSize) out) (take-all groupSize (groupBytes words) (omega (arith, length-group words))),
+          ∙ ap (λ (b : List ℕ). take at out ++ b ++ drop (at + groupSize) out)
+          (take-all groupSize (groupBytes words) (omega (arith, length-group words))),
     )

@@ -1,5 +1,5 @@
--- A group written as thirteen bytes reads back the same, for every four words; and thirteen bytes whose blocks are each valid at
--- their place are what writing their words gives.
+-- A group written as thirteen bytes reads back the same, for every four words; and thirteen bytes whose blocks are
+-- each valid at their place are what writing their words gives.
 use Prim.Native.Nat.{ℕ, zero, suc, _+_, _*_, _-_, _/_, _%_, _^_, _<_, _≤_}
 use mathlib.Core.Path.{_≡_, refl, sym, ap, ap₂, _∙_}
 use mathlib.Core.List.{List, [], _∷_}
@@ -67,18 +67,23 @@ group-read-back a b c d fits =
     )
 
 -- 104 bits are four blocks
-pub spell-blocks : (s : List ℕ) → spell (bitAt s) 0 104 ≡ fourBlocks (blockIn s 0) (blockIn s 1) (blockIn s 2) (blockIn s 3)
+pub spell-blocks : (s : List ℕ) → spell (bitAt s) 0 104 ≡ fourBlocks (blockIn s 0) (blockIn s 1) (blockIn s 2)
+    (blockIn s 3)
 unfolding blockIn fourBlocks
 spell-blocks s =
-    let add : (i m n : ℕ) → spell (bitAt s) i (m + n) ≡ spell (bitAt s) i m * 2 ^ n + spell (bitAt s) (i + m) n = spell-add (bitAt s) (bitAt-lt s) in
+    let add : (i m n : ℕ) → spell (bitAt s) i (m + n) ≡ spell (bitAt s) i m * 2 ^ n + spell (bitAt s) (i + m) n =
+    spell-add (bitAt s) (bitAt-lt s) in
     add 0 78 26 ∙ ap (λ (x : ℕ). x * 2 ^ 26 + spell (bitAt s) 78 26)
     (add 0 52 26 ∙ ap (λ (x : ℕ). x * 2 ^ 26 + spell (bitAt s) 52 26) (add 0 26 26))
 
 -- 13 bytes whose four blocks are each valid at their place are what writing their words gives
-pub group-written-back : (s : List ℕ) → Bytes s → length s ≡ 13 → ((i : ℕ) → i < 4 → Valid (expectedOf i (wordIn s 1)) (blockIn s i))
+pub group-written-back : (s : List ℕ) → Bytes s → length s ≡ 13 →
+    ((i : ℕ) → i < 4 → Valid (expectedOf i (wordIn s 1)) (blockIn s i))
     → groupBytes (wordIn s 0 ∷ wordIn s 1 ∷ wordIn s 2 ∷ wordIn s 3 ∷ []) ≡ s
 unfolding groupBytes
 group-written-back s byte long valid =
     let block : (i : ℕ) → i < 4 → writeOf (wordIn s i) (expectedOf i (wordIn s 1)) ≡ blockIn s i =
-    λ i h. ap (λ (w : ℕ). writeOf w (expectedOf i (wordIn s 1))) (sym (word-in-block s i)) ∙ valid-write (expectedOf i (wordIn s 1)) (blockIn s i) (valid i h) in
-    rw (block 0 (omega arith), block 1 (omega arith), block 2 (omega arith), block 3 (omega arith), ← spell-blocks s) (bytesOf-spell 13 s byte long)
+    λ i h. ap (λ (w : ℕ). writeOf w (expectedOf i (wordIn s 1))) (sym (word-in-block s i)) ∙ valid-write
+    (expectedOf i (wordIn s 1)) (blockIn s i) (valid i h) in
+    rw (block 0 (omega arith), block 1 (omega arith), block 2 (omega arith), block 3 (omega arith), ← spell-blocks s)
+    (bytesOf-spell 13 s byte long)

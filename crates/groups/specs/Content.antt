@@ -19,7 +19,15 @@ bitOf word i = eqb (word / 2 ^ i % 2) 1
 -- word 1 is PI; word 2 from the top: type, version, TP, PTY, five bits by type
 unfoldable pub headerOf : ℕ → ℕ → Header
 headerOf word1 word2 =
-    record { pi = word1; number = typeOf word2; version = versionOf word2; tp = bitOf word2 10; pty = ptyOf word2; low = lowOf word2 }
+    record {
+      pi = word1;
+      number = typeOf word2;
+      version = versionOf word2;
+      tp = bitOf word2 10;
+      pty =
+          ptyOf word2;
+      low = lowOf word2;
+    }
 
 -- 0A, 0B: bit 4 TA, bit 3 M/S, bit 2 DI
 abbrev pub switchesOf : ℕ → Switches

@@ -1,4 +1,5 @@
--- A group as it is sent: four blocks, and thirteen bytes, eight bits to a byte, first bit highest; and read back from them.
+-- A group as it is sent: four blocks, and thirteen bytes, eight bits to a byte, first bit highest; and read back from
+-- them.
 use Prim.Native.Nat.{ℕ, _+_, _*_, _^_}
 use mathlib.Core.List.{List, [], _∷_, _++_}
 use mathlib.Core.Bool.{Bool, cond}
@@ -34,7 +35,8 @@ groupSize = 13
 
 -- any four words as 13 bytes
 unfoldable pub groupBytes : List ℕ → List ℕ
-groupBytes words = bytesOf groupSize (fourBlocks (blockOf words 0) (blockOf words 1) (blockOf words 2) (blockOf words 3))
+groupBytes words = bytesOf groupSize (fourBlocks (blockOf words 0) (blockOf words 1) (blockOf words 2)
+    (blockOf words 3))
 
 -- putting them into a buffer from byte `at` on is refused where they have no room there
 unfoldable pub noRoom : List ℕ → ℕ → Bool
@@ -69,4 +71,5 @@ judgedIn s i = judgeOf (blockIn s i) (expectedOf i (wordIn s 1))
 -- the group that 13 bytes are
 unfoldable pub groupIn : List ℕ → Group
 groupIn s =
-    withBlockOf (withBlockOf (withBlockOf (withBlockOf emptyOf 0 (judgedIn s 0)) 1 (judgedIn s 1)) 2 (judgedIn s 2)) 3 (judgedIn s 3)
+    withBlockOf (withBlockOf (withBlockOf (withBlockOf emptyOf 0 (judgedIn s 0)) 1 (judgedIn s 1)) 2 (judgedIn s 2))
+    3 (judgedIn s 3)

@@ -25,12 +25,14 @@ offset-requires c κs = search needs
 returns-2 : tie.Need-returns-2
 returns-2 c =
     judge-settled _ _ _
-    (judge-left (c .before .before .before .before .args .bits) _ (omega arith) (c .before .before .left .ensures) (c .before .before .before .before .args .kind) (c .if2 .taken ∙ c .before .offset .ensures))
+    (judge-left (c .before .before .before .before .args .bits) _ (omega arith) (c .before .before .left .ensures)
+    (c .before .before .before .before .args .kind) (c .if2 .taken ∙ c .before .offset .ensures))
 
 returns-3 : tie.Need-returns-3
 returns-3 c =
     judge-settled _ _ _
-    (judge-none-left (c .before .before .before .before .args .bits) _ (omega arith) (c .before .before .left .ensures) (c .before .before .before .before .args .kind)
+    (judge-none-left (c .before .before .before .before .args .bits) _ (omega arith)
+    (c .before .before .left .ensures) (c .before .before .before .before .args .kind)
     (λ e. c .if2 .left (e ∙ sym (c .before .offset .ensures))))
 
 pub judge-spec : {M : Type 1} → statement M

@@ -1,5 +1,5 @@
--- `blocks::leftover` meets its promise. Before row i the sum is what the word's bits above bit 15 - i leave; the code's table
--- is compared with the division once, where the loop begins.
+-- `blocks::leftover` meets its promise. Before row i the sum is what the word's bits above bit 15 - i leave; the
+-- code's table is compared with the division once, where the loop begins.
 use Prim.Native.Nat.{ℕ, _≤_, _-_, _*_, _/_, _^_}
 use mathlib.Core.Path.{_≡_, refl, ap, _∙_}
 use mathlib.Core.List.{List}
@@ -52,9 +52,12 @@ loop-again c = (
   search needs,
   search needs,
   ⊎-elim
-      (λ w. w .1 ∙ ap (λ (rows : List ℕ). bitXor (c .before .before .loop .sum) (getD rows (c .before .before .loop .i) 0)) (c .before .before .loop .inv .0)
-      ∙ rows-set (c .before .before .before .args .word) (c .before .before .loop .i) (c .before .before .loop .sum) (omega arith) (w .0 .taken) (c .before .before .loop .inv .2))
-      (λ w. w .1 ∙ rows-unset (c .before .before .before .args .word) (c .before .before .loop .i) (c .before .before .loop .sum) (omega arith) (omega (arith, w .0 .left)) (c .before .before .loop .inv .2))
+      (λ w. w .1 ∙ ap (λ (rows : List ℕ). bitXor (c .before .before .loop .sum)
+      (getD rows (c .before .before .loop .i) 0)) (c .before .before .loop .inv .0)
+      ∙ rows-set (c .before .before .before .args .word) (c .before .before .loop .i) (c .before .before .loop .sum)
+      (omega arith) (w .0 .taken) (c .before .before .loop .inv .2))
+      (λ w. w .1 ∙ rows-unset (c .before .before .before .args .word) (c .before .before .loop .i)
+      (c .before .before .loop .sum) (omega arith) (omega (arith, w .0 .left)) (c .before .before .loop .inv .2))
       (c .if1 .came),
 )
 

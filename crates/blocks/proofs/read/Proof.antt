@@ -39,7 +39,8 @@ returns-4 c =
 returns-5 : tie.Need-returns-5
 returns-5 c =
     read-settled (c .before .before .before .args .bits) _
-    (read-left (c .before .before .before .args .bits) _ (omega arith) (c .before .left .ensures) CPrime (c .match .keys4))
+    (read-left (c .before .before .before .args .bits) _ (omega arith) (c .before .left .ensures) CPrime
+    (c .match .keys4))
 
 returns-6 : tie.Need-returns-6
 returns-6 c =
@@ -50,7 +51,8 @@ returns-7 : tie.Need-returns-7
 returns-7 c =
     read-settled (c .before .before .before .args .bits) _
     (read-none-left (c .before .before .before .args .bits) _ (omega arith) (c .before .left .ensures)
-    (each-kind (λ k. c .before .left .result ≡ offsetOf k → ⊥) (c .match .rest .0 .0 .0 .0 .1) (c .match .rest .0 .0 .0 .1)
+    (each-kind (λ k. c .before .left .result ≡ offsetOf k → ⊥) (c .match .rest .0 .0 .0 .0 .1)
+    (c .match .rest .0 .0 .0 .1)
     (c .match .rest .0 .0 .1) (c .match .rest .0 .1) (c .match .rest .1)))
 
 pub read-spec : {M : Type 1} → statement M

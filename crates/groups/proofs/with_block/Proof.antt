@@ -31,7 +31,11 @@ array-write-good c = search needs
 
 returns-2 : tie.Need-returns-2
 unfolding withBlockOf
-returns-2 c = rw (lt-leb places (c .before .before .before .before .before .args .place) (omega arith), c .judged-good .ensures, c .before .judged-word .ensures)
+returns-2 c = rw (
+  lt-leb places (c .before .before .before .before .before .args .place) (omega arith),
+  c .judged-good .ensures,
+  c .before .judged-word .ensures,
+)
 
 pub with-block-spec : {M : Type 1} → statement M
 with-block-spec =

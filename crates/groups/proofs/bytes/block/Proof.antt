@@ -14,7 +14,11 @@ cast-result : tie.Need-cast-result
 cast-result c = search needs
 
 returns : tie.Need-returns
-returns c = (c .write .ensures, rw (c .write .ensures) (write-lt (c .before .args .word) (c .before .args .kind) (search needs)))
+returns c = (
+  c .write .ensures,
+  rw (c .write .ensures) (write-lt (c .before .args .word) (c .before .args .kind)
+      (search needs)),
+)
 
 pub block-spec : {M : Type 1} → statement M
 block-spec = tie.close (tie.spec write-requires cast-result returns)

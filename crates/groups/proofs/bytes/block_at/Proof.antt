@@ -37,7 +37,8 @@ returns-2 c =
     let s = start .args .bytes .now in
     let n = start .args .number in
     c .block-from .ensures
-    ∙ ap (λ l. blockIn l (n % 4)) (take-all (length s - 13 * (n / 4)) (drop (13 * (n / 4)) s) (omega (arith, length-drop (13 * (n / 4)) s)))
+    ∙ ap (λ l. blockIn l (n % 4)) (take-all (length s - 13 * (n / 4)) (drop (13 * (n / 4)) s)
+    (omega (arith, length-drop (13 * (n / 4)) s)))
     ∙ block-in-drop s (n / 4) (n % 4) ∙ ap (blockIn s) (omega arith)
 
 pub block-at-spec : {M : Type 1} → statement M

@@ -65,8 +65,16 @@ cast-result c = search needs
 returns : tie.Need-returns
 returns c =
     let start = c .before .before .before .before .before in
-    rw (c .byte-at4 .ensures .0, c .before .byte-at3 .ensures .0, c .before .before .byte-at2 .ensures .0, c .before .before .before .byte-at .ensures .0)
-    (block-in-bytes (start .args .bytes .now) (λ i. omega (arith, c .before .before .before .before .shared-slice-known .given i)) (start .args .place) (start .pre))
+    rw (
+      c .byte-at4 .ensures .0,
+      c .before .byte-at3 .ensures .0,
+      c .before .before .byte-at2 .ensures .0,
+      c .before .before .before .byte-at .ensures .0,
+    )
+    (block-in-bytes (start .args .bytes .now) (λ i. omega (
+      arith,
+      c .before .before .before .before .shared-slice-known .given i,
+    )) (start .args .place) (start .pre))
 
 pub block-from-spec : {M : Type 1} → statement M
 block-from-spec =

@@ -40,7 +40,13 @@ write-requires-4 c κs = search needs
 
 returns : tie.Need-returns
 unfolding blocksOf
-returns c = rw (c .write4 .ensures, c .before .write3 .ensures, c .before .before .third-kind .ensures, c .before .before .before .write2 .ensures, c .before .before .before .before .write .ensures)
+returns c = rw (
+  c .write4 .ensures,
+  c .before .write3 .ensures,
+  c .before .before .third-kind .ensures,
+  c .before .before .before .write2 .ensures,
+  c .before .before .before .before .write .ensures,
+)
 
 pub blocks-of-spec : {M : Type 1} → statement M
 blocks-of-spec =

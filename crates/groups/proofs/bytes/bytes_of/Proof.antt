@@ -44,7 +44,14 @@ packed-requires c κs = search needs
 
 returns : tie.Need-returns
 unfolding groupBytes
-returns c = rw (c .packed .ensures, c .before .block4 .ensures .0, c .before .before .block3 .ensures .0, c .before .before .before .third-kind .ensures, c .before .before .before .before .block2 .ensures .0, c .before .before .before .before .before .block .ensures .0)
+returns c = rw (
+  c .packed .ensures,
+  c .before .block4 .ensures .0,
+  c .before .before .block3 .ensures .0,
+  c .before .before .before .third-kind .ensures,
+  c .before .before .before .before .block2 .ensures .0,
+  c .before .before .before .before .before .block .ensures .0,
+)
 
 pub bytes-of-spec : {M : Type 1} → statement M
 bytes-of-spec =

@@ -38,7 +38,17 @@ with-block-requires-4 c κs = search needs
 
 returns : tie.Need-returns
 unfolding groupIn
-returns c = rw (c .with-block4 .ensures, c .before .judged-in4 .ensures, c .before .before .with-block3 .ensures, c .before .before .before .judged-in3 .ensures, c .before .before .before .before .with-block2 .ensures, c .before .before .before .before .before .judged-in2 .ensures, c .before .before .before .before .before .before .with-block .ensures, c .before .before .before .before .before .before .before .judged-in .ensures, c .before .before .before .before .before .before .before .before .empty .ensures)
+returns c = rw (
+  c .with-block4 .ensures,
+  c .before .judged-in4 .ensures,
+  c .before .before .with-block3 .ensures,
+  c .before .before .before .judged-in3 .ensures,
+  c .before .before .before .before .with-block2 .ensures,
+  c .before .before .before .before .before .judged-in2 .ensures,
+  c .before .before .before .before .before .before .with-block .ensures,
+  c .before .before .before .before .before .before .before .judged-in .ensures,
+  c .before .before .before .before .before .before .before .before .empty .ensures,
+)
 
 pub group-of-spec : {M : Type 1} → statement M
 group-of-spec =

@@ -22,7 +22,12 @@ judge-requires : tie.Need-judge-requires
 judge-requires c κs = search needs
 
 returns : tie.Need-returns
-returns c = rw (c .judge .ensures .0, c .before .expected .ensures, c .before .before .word-at .ensures, c .before .before .before .block-at .ensures)
+returns c = rw (
+  c .judge .ensures .0,
+  c .before .expected .ensures,
+  c .before .before .word-at .ensures,
+  c .before .before .before .block-at .ensures,
+)
 
 pub judged-in-spec : {M : Type 1} → statement M
 judged-in-spec =

@@ -64,7 +64,8 @@ cast-t47 : tie.Need-cast-t47
 cast-t47 c = search needs
 
 returns : tie.Need-returns
-returns c = thirteen-bytes (c .args .one) (c .args .two) (c .args .three) (c .args .four) (c .pre .0) (c .pre .1) (c .pre .2) (c .pre .3)
+returns c = thirteen-bytes (c .args .one) (c .args .two) (c .args .three) (c .args .four) (c .pre .0) (c .pre .1)
+    (c .pre .2) (c .pre .3)
 
 pub packed-spec : {M : Type 1} → statement M
 packed-spec =

@@ -13,13 +13,15 @@ use Rattle.groups.proofs.bytes.bytes_of.Reads as bytes-of-reads
 use Rattle.groups.proofs.bytes.put_bytes.Reads as put-bytes-reads
 
 returns : tie.Need-returns
-returns c = put-short (c .before .before .args .words) (c .before .before .args .out .now) (c .before .before .args .at) (omega arith)
+returns c = put-short (c .before .before .args .words) (c .before .before .args .out .now)
+    (c .before .before .args .at) (omega arith)
 
 sub-if2 : tie.Need-sub-if2
 sub-if2 c = search needs
 
 returns-2 : tie.Need-returns-2
-returns-2 c = put-short (c .before .before .before .args .words) (c .before .before .before .args .out .now) (c .before .before .before .args .at) (omega arith)
+returns-2 c = put-short (c .before .before .before .args .words) (c .before .before .before .args .out .now)
+    (c .before .before .before .args .at) (omega arith)
 
 bytes-of-requires : tie.Need-bytes-of-requires
 bytes-of-requires c κs = search needs
@@ -31,7 +33,10 @@ same-length : tie.Need-same-length
 same-length c = search needs
 
 returns-3 : tie.Need-returns-3
-returns-3 c = put-done (c .before .before .before .before .before .before .before .before .args .words) (c .before .before .before .before .before .before .before .before .args .out .now) _ _ (c .before .before .before .before .before .before .before .before .args .at) (omega arith) (c .before .before .before .before .bytes-of .ensures) (c .before .before .put-bytes .ensures)
+returns-3 c = put-done (c .before .before .before .before .before .before .before .before .args .words)
+    (c .before .before .before .before .before .before .before .before .args .out .now) _ _
+    (c .before .before .before .before .before .before .before .before .args .at) (omega arith)
+    (c .before .before .before .before .bytes-of .ensures) (c .before .before .put-bytes .ensures)
 
 pub put-at-spec : {M : Type 1} → statement M
 put-at-spec =

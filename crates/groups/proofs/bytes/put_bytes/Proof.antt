@@ -31,7 +31,8 @@ slice-write-out : tie.Need-slice-write-out Inv-loop μ-loop
 slice-write-out c =
     let start = c .before .before in
     let same : length (c .before .loop .out) ≡ length (start .args .out .now) =
-    ap length (c .before .loop .inv .1) ∙ length-paste (start .args .out .now) (start .args .at) (start .args .t1) (c .before .loop .i) (omega arith) (omega arith) in
+    ap length (c .before .loop .inv .1) ∙ length-paste (start .args .out .now) (start .args .at) (start .args .t1)
+    (c .before .loop .i) (omega arith) (omega arith) in
     omega arith
 
 add-i : tie.Need-add-i Inv-loop μ-loop
@@ -45,14 +46,16 @@ loop-again c =
     let start = c .before .before in (
       search needs,
       rw (c .before .loop .inv .1, add-one (c .before .loop .i))
-          (paste-suc (start .args .out .now) (start .args .at) (start .args .t1) (c .before .loop .i) 0 (omega arith) (omega arith)),
+          (paste-suc (start .args .out .now) (start .args .at) (start .args .t1) (c .before .loop .i) 0 (omega arith)
+          (omega arith)),
     )
 
 same-length : tie.Need-same-length Inv-loop μ-loop
 same-length c =
     let start = c .before .before in
     let same : length (c .before .loop .out) ≡ length (start .args .out .now) =
-    ap length (c .before .loop .inv .1) ∙ length-paste (start .args .out .now) (start .args .at) (start .args .t1) (c .before .loop .i) (omega arith) (omega arith) in
+    ap length (c .before .loop .inv .1) ∙ length-paste (start .args .out .now) (start .args .at) (start .args .t1)
+    (c .before .loop .i) (omega arith) (omega arith) in
     same
 
 returns : tie.Need-returns Inv-loop μ-loop

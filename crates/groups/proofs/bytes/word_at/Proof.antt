@@ -14,10 +14,15 @@ block-at-requires : tie.Need-block-at-requires
 block-at-requires c κs = search needs
 
 cast-result : tie.Need-cast-result
-cast-result c = rw (c .block-at .ensures) (search (block-in-lt (c .before .before .args .bytes .now) (c .before .before .args .number), needs))
+cast-result c = rw (c .block-at .ensures) (search (
+  block-in-lt (c .before .before .args .bytes .now)
+      (c .before .before .args .number),
+  needs,
+))
 
 returns : tie.Need-returns
-returns c = rw (c .block-at .ensures) (word-in-block (c .before .before .args .bytes .now) (c .before .before .args .number))
+returns c = rw (c .block-at .ensures) (word-in-block (c .before .before .args .bytes .now)
+    (c .before .before .args .number))
 
 pub word-at-spec : {M : Type 1} → statement M
 word-at-spec = tie.close (tie.spec block-at-requires cast-result returns)

@@ -38,31 +38,37 @@ text-address-requires-2 c κs = search needs
 returns : tie.Need-returns
 returns c =
     rw (c .name-address .ensures, c .before .switches-from .ensures)
-    (sym (content-0A (c .before .before .before .args .word2) (c .before .before .before .args .word3) (c .before .before .before .args .word4) (c .before .before .match .keys1)))
+    (sym (content-0A (c .before .before .before .args .word2) (c .before .before .before .args .word3)
+    (c .before .before .before .args .word4) (c .before .before .match .keys1)))
 
 returns-2 : tie.Need-returns-2
 returns-2 c =
     rw (c .name-address2 .ensures, c .before .switches-from2 .ensures)
-    (sym (content-0B (c .before .before .before .args .word2) (c .before .before .before .args .word3) (c .before .before .before .args .word4) (c .before .before .match .keys2)))
+    (sym (content-0B (c .before .before .before .args .word2) (c .before .before .before .args .word3)
+    (c .before .before .before .args .word4) (c .before .before .match .keys2)))
 
 returns-3 : tie.Need-returns-3
 returns-3 c =
     rw (c .text-address .ensures, c .before .text-flag .ensures)
-    (sym (content-2A (c .before .before .before .args .word2) (c .before .before .before .args .word3) (c .before .before .before .args .word4) (c .before .before .match .keys3)))
+    (sym (content-2A (c .before .before .before .args .word2) (c .before .before .before .args .word3)
+    (c .before .before .before .args .word4) (c .before .before .match .keys3)))
 
 returns-4 : tie.Need-returns-4
 returns-4 c =
     rw (c .text-address2 .ensures, c .before .text-flag2 .ensures)
-    (sym (content-2B (c .before .before .before .args .word2) (c .before .before .before .args .word3) (c .before .before .before .args .word4) (c .before .before .match .keys4)))
+    (sym (content-2B (c .before .before .before .args .word2) (c .before .before .before .args .word3)
+    (c .before .before .before .args .word4) (c .before .before .match .keys4)))
 
 returns-5 : tie.Need-returns-5
-returns-5 c = sym (content-4A (c .before .args .word2) (c .before .args .word3) (c .before .args .word4) (c .match .keys5))
+returns-5 c = sym (content-4A (c .before .args .word2) (c .before .args .word3) (c .before .args .word4)
+    (c .match .keys5))
 
 returns-6 : tie.Need-returns-6
 returns-6 c =
     sym
     (content-other (c .before .args .word2) (c .before .args .word3) (c .before .args .word4)
-    (c .match .rest .0 .0 .0 .0 .1) (c .match .rest .0 .0 .0 .1) (c .match .rest .0 .0 .1) (c .match .rest .0 .1) (c .match .rest .1))
+    (c .match .rest .0 .0 .0 .0 .1) (c .match .rest .0 .0 .0 .1) (c .match .rest .0 .0 .1) (c .match .rest .0 .1)
+    (c .match .rest .1))
 
 pub content-from-spec : {M : Type 1} → statement M
 content-from-spec =

@@ -20,7 +20,12 @@ content-from-requires : tie.Need-content-from-requires
 content-from-requires c κs = search needs
 
 returns : tie.Need-returns
-returns c = rw (c .content-from .ensures, c .before .word3 .ensures, c .before .before .word2 .ensures, c .before .before .before .word .ensures)
+returns c = rw (
+  c .content-from .ensures,
+  c .before .word3 .ensures,
+  c .before .before .word2 .ensures,
+  c .before .before .before .word .ensures,
+)
 
 pub content-of-spec : {M : Type 1} → statement M
 content-of-spec =

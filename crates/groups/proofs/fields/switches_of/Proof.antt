@@ -19,7 +19,12 @@ switches-from-requires c κs = search needs
 
 returns : tie.Need-returns
 unfolding carriedOf
-returns c = rw (c .switches-from .ensures, ← c .before .before .word .ensures, eq-eqb (typeOf (c .before .before .word .result)) 0 (c .before .if1 .taken))
+returns c = rw (
+  c .switches-from .ensures,
+  ← c .before .before .word .ensures,
+  eq-eqb
+      (typeOf (c .before .before .word .result)) 0 (c .before .if1 .taken),
+)
 
 returns-2 : tie.Need-returns-2
 unfolding carriedOf

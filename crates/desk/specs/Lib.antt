@@ -1,0 +1,2 @@
+-- What the desk promises of the inputs that it reads.
+pub mod Filled

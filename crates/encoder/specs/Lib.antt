@@ -1,0 +1,4 @@
+-- What the floor `encoder` means.
+pub mod Words
+pub mod Encoding
+pub mod Answer

@@ -1,0 +1,8 @@
+-- The laws of the floor `receiver`.
+pub mod Refusal
+pub mod Ends
+pub mod Feeds
+pub mod Quiet
+pub mod Saves
+pub mod Reached
+pub mod SavedBack

@@ -1,0 +1,5 @@
+-- What the crate `station` means.
+pub mod Record
+pub mod Update
+pub mod History
+pub mod Whole
