@@ -408,10 +408,10 @@ fn lock_after(window: u64, count: u8) -> Lock
     requires { ⌜ window < windowLimit ⌝ }
     ensures { λ r. ⌜ r ≡ lockAfterOf window count ⌝ }
 {
-    if count < PAIR_BITS - 1 {
-        return Lock::No;
+    if count >= PAIR_BITS - 1 {
+        return try_lock((window / BLOCK_LIMIT) as u32, (window % BLOCK_LIMIT) as u32);
     }
-    try_lock((window / BLOCK_LIMIT) as u32, (window % BLOCK_LIMIT) as u32)
+    Lock::No
 }
 
 // How many of the last bits there are, with one more.

@@ -14,10 +14,6 @@ use Rattle.receiver.proofs.try_lock.Reads as try-lock-reads
 sub-if1 : tie.Need-sub-if1
 sub-if1 c = search needs
 
-returns : tie.Need-returns
-unfolding lockAfterOf
-returns c = rw (lt-ltb (c .before .args .count + 1) pairBits (omega arith))
-
 cast-try-lock : tie.Need-cast-try-lock
 cast-try-lock c = search needs
 
@@ -27,10 +23,14 @@ cast-try-lock-2 c = search needs
 try-lock-requires : tie.Need-try-lock-requires
 try-lock-requires c κs = search needs
 
+returns : tie.Need-returns
+unfolding lockAfterOf
+returns c = rw (le-ltb (c .before .before .args .count + 1) pairBits (omega arith), c .try-lock .ensures)
+
 returns-2 : tie.Need-returns-2
 unfolding lockAfterOf
-returns-2 c = rw (le-ltb (c .before .before .args .count + 1) pairBits (omega arith), c .try-lock .ensures)
+returns-2 c = rw (lt-ltb (c .before .args .count + 1) pairBits (omega arith))
 
 pub lock-after-spec : {M : Type 1} → statement M
 lock-after-spec =
-    tie.close (tie.spec sub-if1 returns cast-try-lock cast-try-lock-2 try-lock-requires returns-2)
+    tie.close (tie.spec sub-if1 cast-try-lock cast-try-lock-2 try-lock-requires returns returns-2)
