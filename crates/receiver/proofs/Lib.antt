@@ -3,6 +3,3 @@ pub mod Refusal
 pub mod Ends
 pub mod Feeds
 pub mod Quiet
-pub mod Saves
-pub mod Reached
-pub mod SavedBack

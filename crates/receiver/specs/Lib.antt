@@ -4,4 +4,3 @@ pub mod Answers
 pub mod Machine
 pub mod Feeding
 pub mod Strides
-pub mod Saving

@@ -16,7 +16,6 @@ use blocks::Kind;
 use groups::Group;
 
 mod feeding;
-mod saving;
 
 // Hunting; or locked, with the place of the block that is coming and the kind that a third one must have.
 pub enum Place {
@@ -93,12 +92,6 @@ pub struct Filled {
     pub count: u8,
     pub byte: usize,
     pub bit: u8,
-}
-
-// Whether the state was saved: a buffer that is too short is refused.
-pub enum Saved {
-    Done,
-    TooShort,
 }
 
 // The bits of a block, and of the pair that is tried.

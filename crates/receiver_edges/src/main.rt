@@ -3,8 +3,8 @@
 // whole is left out.
 ghost use Prim.Native.Nat.{_≤_};
 use groups::Group;
-use libc::STDOUT_FILENO;
 use libc::STDIN_FILENO;
+use libc::STDOUT_FILENO;
 use receiver::Advanced;
 use receiver::Answer;
 use receiver::Receiver;

@@ -14,9 +14,9 @@ use Rattle.bits.specs.Bytes.{bitAt, Bytes, bytesOf}
 use Rattle.bits.proofs.Spelling.{spell-lt, spell-add}
 use Rattle.bits.proofs.ByteBits.{bitAt-lt, spell-byte, spell-drop, spell-front, spell-bytesOf, length-bytesOf}
 use Rattle.groups.specs.Group.{wordOf, goodOf}
 use Rattle.receiver.specs.declared.Receiver.{Receiver}
 use Rattle.receiver.specs.Feeding.{byteBits}
-use Rattle.receiver.specs.Saving.{stateLength, flagOf, placeNumberOf, stateBytesOf}
+use Rattle.saving.specs.Saving.{stateLength, flagOf, placeNumberOf, stateBytesOf}
 
 -- ---- bytes as a number
 

@@ -13,16 +13,16 @@ use Rattle.blocks.specs.declared.Judged.{Judged}
 use Rattle.blocks.specs.declared.Judged.the-variants.{Good, Bad, Refused}
 use Rattle.groups.specs.declared.Group.{Group}
 use Rattle.groups.specs.Group.{withBlockOf, wordOf, goodOf, judgedWord, judgedGood}
 use Rattle.receiver.specs.declared.Place.{Place}
 use Rattle.receiver.specs.declared.Place.the-variants.{Hunting, First, Second, Fourth}
 use Rattle.receiver.specs.declared.Place.the-variants.{ThirdC, ThirdCPrime, ThirdBad}
 use Rattle.receiver.specs.declared.Receiver.{Receiver}
 use Rattle.receiver.specs.Machine.{freshOf, fedOf}
 use Rattle.receiver.specs.Feeding.{byteBits}
-use Rattle.receiver.specs.Saving.{maskAt, wordsAt, flagOf, placeNumberOf, stateBytesOf, placeNumberedOf}
-use Rattle.receiver.specs.Saving.{stateLength, bufferOf, savedBlockOf, savedHandOf, restoreOf}
-use Rattle.receiver.proofs.Saves.{spell-written}
-use Rattle.receiver.proofs.Reached.{Made, Sound, fed-sound}
+use Rattle.saving.specs.Saving.{maskAt, wordsAt, flagOf, placeNumberOf, stateBytesOf, placeNumberedOf}
+use Rattle.saving.specs.Saving.{stateLength, bufferOf, savedBlockOf, savedHandOf, restoreOf}
+use Rattle.saving.proofs.Saves.{spell-written}
+use Rattle.saving.proofs.Reached.{Made, Sound, fed-sound}
 
 place-back : (place : Place) → placeNumberedOf (placeNumberOf place) ≡ place
 place-back Hunting = refl

@@ -10,13 +10,13 @@ use Rattle.blocks.specs.declared.Judged.{Judged}
 use Rattle.blocks.specs.declared.Judged.the-variants.{Good, Bad}
 use Rattle.groups.specs.declared.Group.{Group}
 use Rattle.groups.specs.Group.{emptyOf, withBlockOf, wordOf, goodOf}
 use Rattle.receiver.specs.declared.Place.{Place}
 use Rattle.receiver.specs.declared.Place.the-variants.{Hunting, First, Second, Fourth}
 use Rattle.receiver.specs.declared.Place.the-variants.{ThirdC, ThirdCPrime, ThirdBad}
 use Rattle.receiver.specs.declared.Receiver.{Receiver}
-use Rattle.receiver.specs.declared.Saved.{Saved}
-use Rattle.receiver.specs.declared.Saved.the-variants.{Done, TooShort}
+use Rattle.saving.specs.declared.Saved.{Saved}
+use Rattle.saving.specs.declared.Saved.the-variants.{Done, TooShort}
 use Rattle.receiver.specs.Feeding.{byteBits}
 
 -- ---- the places of the fields, as byte numbers
 

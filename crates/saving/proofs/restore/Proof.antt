@@ -1,48 +1,48 @@
--- `receiver::Receiver::restore` meets its promise: field by field.
-use Rattle.receiver.specs.Saving.{restoreOf}
+-- `saving::restore` meets its promise: field by field.
+use Rattle.saving.specs.Saving.{restoreOf}
 use borrow.Author.Needs.{needs}
-use Rattle.receiver.proofs.Receiver.restore.Statement.{statement}
-use Rattle.receiver.proofs.Receiver.restore.Tie as tie
-use Rattle.receiver.proofs.Receiver.restore.Reads as reads
-use Rattle.receiver.proofs.Receiver.restore.Lts as lts
-use Rattle.receiver.proofs.saving.byte_at.Reads as byte-at-reads
-use Rattle.receiver.proofs.saving.number_at.Reads as number-at-reads
-use Rattle.receiver.proofs.saving.place_numbered.Reads as place-numbered-reads
-use Rattle.receiver.proofs.saving.saved_hand.Reads as saved-hand-reads
+use Rattle.saving.proofs.restore.Statement.{statement}
+use Rattle.saving.proofs.restore.Tie as tie
+use Rattle.saving.proofs.restore.Reads as reads
+use Rattle.saving.proofs.restore.Lts as lts
+use Rattle.saving.proofs.byte_at.Reads as byte-at-reads
+use Rattle.saving.proofs.number_at.Reads as number-at-reads
+use Rattle.saving.proofs.place_numbered.Reads as place-numbered-reads
+use Rattle.saving.proofs.saved_hand.Reads as saved-hand-reads
 
--- src/saving.rt:181:21
+-- src/lib.rt:181:21
 number-at-requires : tie.Need-number-at-requires
 number-at-requires c κs = search needs
 
--- src/saving.rt:182:20
+-- src/lib.rt:182:20
 byte-at-requires : tie.Need-byte-at-requires
 byte-at-requires c κs = search needs
 
--- src/saving.rt:183:35
+-- src/lib.rt:183:35
 byte-at-requires-2 : tie.Need-byte-at-requires-2
 byte-at-requires-2 c κs = search needs
 
--- src/saving.rt:183:20
+-- src/lib.rt:183:20
 place-numbered-requires : tie.Need-place-numbered-requires
 place-numbered-requires c κs = search needs
 
--- src/saving.rt:184:19
+-- src/lib.rt:184:19
 byte-at-requires-3 : tie.Need-byte-at-requires-3
 byte-at-requires-3 c κs = search needs
 
--- src/saving.rt:185:19
+-- src/lib.rt:185:19
 saved-hand-requires : tie.Need-saved-hand-requires
 saved-hand-requires c κs = search needs
 
--- src/saving.rt:186:18
+-- src/lib.rt:186:18
 byte-at-requires-4 : tie.Need-byte-at-requires-4
 byte-at-requires-4 c κs = search needs
 
--- src/saving.rt:187:18
+-- src/lib.rt:187:18
 byte-at-requires-5 : tie.Need-byte-at-requires-5
 byte-at-requires-5 c κs = search needs
 
--- src/saving.rt:177:5
+-- src/lib.rt:177:5
 returns : tie.Need-returns
 unfolding restoreOf
 returns c = rw (

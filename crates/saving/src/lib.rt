@@ -1,5 +1,5 @@
-// The state as bytes in a lent buffer, and back. Refuses, with number 8, a buffer that is too short; any bytes give a
-// state.
+// The receiver's state as bytes in a lent buffer, and back. Refuses, with number 8, a buffer that is too short; any
+// bytes give a state.
 ghost use mathlib.Core.Path.{_≡_};
 ghost use mathlib.Core.Bool.{cond};
 ghost use Prim.Native.Nat.{_+_, _*_, _<_, _≤_};
@@ -8,14 +8,19 @@ ghost use lib.ListN.{length, getD, drop};
 ghost use mathlib.Core.List.{_++_};
 ghost use Rattle.bits.specs.Spell.{spell};
 ghost use Rattle.bits.specs.Bytes.{bitAt};
 ghost use Rattle.receiver.specs.Feeding.{byteBits};
-ghost use Rattle.receiver.specs.Saving.{stateLength, flagOf, placeNumberOf, stateBytesOf, saveOf, savedNumber};
-ghost use Rattle.receiver.specs.Saving.{bufferOf, placeNumberedOf, savedBlockOf, savedHandOf, restoreOf};
-use crate::Place;
-use crate::Receiver;
-use crate::Saved;
+ghost use Rattle.saving.specs.Saving.{stateLength, flagOf, placeNumberOf, stateBytesOf, saveOf, savedNumber};
+ghost use Rattle.saving.specs.Saving.{bufferOf, placeNumberedOf, savedBlockOf, savedHandOf, restoreOf};
 use blocks::Judged;
 use groups::Group;
+use receiver::Place;
+use receiver::Receiver;
+
+// Whether the state was saved: a buffer that is too short is refused.
+pub enum Saved {
+    Done,
+    TooShort,
+}
 
 // The bytes of a state, and where its fields are.
 const STATE_LENGTH: usize = 25;
@@ -152,37 +157,35 @@ fn saved_hand(bytes: &[u8]) -> Group
     groups::with_block(three, 3, saved_block(bytes, 3))
 }
 
-impl Receiver {
-    // The state as bytes; the bytes beyond stay.
-    pub fn save(self, out: &mut [u8]) -> Saved
-        ensures { λ r. ⌜ (r ≡ saveOf (now (out .entry)))
-            × (savedNumber r ≡ cond (ltb (length (now (out .entry))) stateLength) 8 0)
-            × (now (out .exit) ≡ bufferOf self (now (out .entry))) ⌝ }
-    {
-        if out.len() < STATE_LENGTH {
-            return Saved::TooShort;
-        }
-        let bytes = state_bytes(self);
-        let mut i = 0;
-        while i < STATE_LENGTH {
-            out[i] = bytes[i];
-            i += 1;
-        }
-        Saved::Done
+// The state as bytes; the bytes beyond stay.
+pub fn save(receiver: Receiver, out: &mut [u8]) -> Saved
+    ensures { λ r. ⌜ (r ≡ saveOf (now (out .entry)))
+        × (savedNumber r ≡ cond (ltb (length (now (out .entry))) stateLength) 8 0)
+        × (now (out .exit) ≡ bufferOf receiver (now (out .entry))) ⌝ }
+{
+    if out.len() < STATE_LENGTH {
+        return Saved::TooShort;
     }
+    let bytes = state_bytes(receiver);
+    let mut i = 0;
+    while i < STATE_LENGTH {
+        out[i] = bytes[i];
+        i += 1;
+    }
+    Saved::Done
+}
 
-    // The state that bytes hold; bytes that are missing are read as 0.
-    pub fn restore(bytes: &[u8]) -> Receiver
-        ensures { λ r. ⌜ r ≡ restoreOf (now (bytes .entry)) ⌝ }
-    {
-        Receiver {
-            window: number_at(bytes, 0, 8),
-            count: byte_at(bytes, COUNT_AT),
-            place: place_numbered(byte_at(bytes, PLACE_AT)),
-            held: byte_at(bytes, HELD_AT) > 0,
-            hand: saved_hand(bytes),
-            run: byte_at(bytes, RUN_AT),
-            bad: byte_at(bytes, BAD_AT),
-        }
+// The state that bytes hold; bytes that are missing are read as 0.
+pub fn restore(bytes: &[u8]) -> Receiver
+    ensures { λ r. ⌜ r ≡ restoreOf (now (bytes .entry)) ⌝ }
+{
+    Receiver {
+        window: number_at(bytes, 0, 8),
+        count: byte_at(bytes, COUNT_AT),
+        place: place_numbered(byte_at(bytes, PLACE_AT)),
+        held: byte_at(bytes, HELD_AT) > 0,
+        hand: saved_hand(bytes),
+        run: byte_at(bytes, RUN_AT),
+        bad: byte_at(bytes, BAD_AT),
     }
 }

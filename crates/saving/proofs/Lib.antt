@@ -1,0 +1,4 @@
+-- The laws of the floor `saving`.
+pub mod Saves
+pub mod Reached
+pub mod SavedBack
