@@ -1,2 +1,3 @@
 -- What the bench promises, in the demands' words.
 pub mod Points
+pub mod Passing
