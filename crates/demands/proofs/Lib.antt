@@ -2,4 +2,8 @@
 pub mod Points
 pub mod PassingExactly
 pub mod PassingEncoded
+pub mod PassingHeard
+pub mod PassingSays
+pub mod PassingRecord
 pub mod PassingDamage
+pub mod Passing

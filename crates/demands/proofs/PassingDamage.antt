@@ -1,28 +1,25 @@
--- A damaged block is the first that is not valid as its kind. No block before it changed, and neither it nor one before it
--- has its kind by a word in it: only third blocks have theirs by a word, that of the second.
+-- A damaged block is the first that is not valid as its kind: no block before it changed, and its kind and theirs stay,
+-- as only a third block has its kind by a word, and that word stands before it.
 use Prim.Native.Nat.{ℕ, zero, suc, _+_, _*_, _/_, _%_, _≤_, _<_}
-use mathlib.Core.Path.{_≡_, refl, sym, ap, ap₂, subst, _∙_}
+use mathlib.Core.Path.{_≡_, refl, ap, subst, _∙_}
 use mathlib.Core.List.{List}
 use mathlib.Core.Logic.{⊎-elim}
 use native.Mathlib.Omega.{arith}
-use lib.ListN.{length}
 use Rattle.bits.specs.Spell.{spell}
 use Rattle.bits.specs.Bytes.{bitAt}
 use Rattle.bits.proofs.Order.{lt-or-le}
 use Rattle.bits.proofs.Spelling.{spell-cong, spell-from}
 use Rattle.bits.proofs.ByteBits.{bitAt-lt}
 use Rattle.blocks.specs.Block.{Valid}
-use Rattle.blocks.specs.Damage.{blockBits}
 use Rattle.blocks.specs.declared.Kind.{Kind}
 use Rattle.blocks.proofs.Damaged.{damage-shows}
 use Rattle.groups.specs.Header.{expectedOf}
 use Rattle.groups.specs.Written.{blockIn, wordIn}
-use Rattle.keys.specs.Sheet.{keyAt}
 use Rattle.marker.specs.declared.Verdict.the-variants.{BadBlock}
 use Rattle.marker.specs.Submission.{blocksIn, kindAt}
 use Rattle.marker.specs.Rules.{GoodLength, BlockRight, BlocksRight, KeyGood, Told}
 use Rattle.marker.proofs.TableLaws.{told-number}
-use Rattle.demands.specs.Passing.{IsPassed, DamagedIn, DamageShows}
+use Rattle.demands.specs.Passing.{DamagedIn, DamageShows}
 use Rattle.demands.proofs.PassingExactly.{passed-exactly}
 
 -- the first two places have their kind by no word

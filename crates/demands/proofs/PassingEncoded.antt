@@ -10,14 +10,13 @@ use Rattle.encoder.specs.Answer.{outOf}
 use Rattle.encoder.proofs.AnswerLaws.{answer-written}
 use Rattle.encoder.proofs.BufferLaws.{written-out}
 use Rattle.marker.proofs.EncodedLaws.{encoding-passes}
-use Rattle.demands.specs.Passing.{IsPassed, EncodedPasses}
+use Rattle.demands.specs.Passing.{EncodedPasses}
 use Rattle.demands.proofs.PassingExactly.{is-passed}
 
 -- the front of what is left in the buffer
 front : (k rest out : List ℕ) → out ≡ encoding k (sentOf k) ++ rest → take (sizeOf k) out ≡ encoding k (sentOf k)
 unfolding sizeOf
-front k rest out e =
-    ap (take (length (encoding k (sentOf k)))) e ∙ take-at (encoding k (sentOf k)) rest (length (encoding k (sentOf k))) refl
+front k rest out e = ap (take (sizeOf k)) e ∙ take-at (encoding k (sentOf k)) rest (sizeOf k) refl
 
 pub encoded-passes : EncodedPasses
 encoded-passes sheet n out bytes (there, good) room =

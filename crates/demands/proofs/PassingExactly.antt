@@ -1,6 +1,6 @@
 -- Passed exactly if the rules hold: the marker's law, said by the answer's number.
 use Prim.Native.Nat.{ℕ}
-use mathlib.Core.Path.{_≡_, refl, ap, sym, _∙_}
+use mathlib.Core.Path.{_≡_, refl, ap}
 use mathlib.Core.List.{List}
 use native.Mathlib.Omega.{arith}
 use Rattle.marker.specs.declared.Verdict.{Verdict}
