@@ -1,6 +1,6 @@
 -- What the encoder writes passes: what it leaves in the buffer begins with the encoding, which the marker's law passes.
 use Prim.Native.Nat.{ℕ}
-use mathlib.Core.Path.{_≡_, refl, ap, _∙_}
+use mathlib.Core.Path.{_≡_, refl, sym, ap, subst, _∙_}
 use mathlib.Core.List.{List, _++_}
 use lib.ListN.{length, take, drop}
 use lib.Seq.{take-at}
@@ -10,7 +10,7 @@ use Rattle.encoder.specs.Answer.{outOf}
 use Rattle.encoder.proofs.AnswerLaws.{answer-written}
 use Rattle.encoder.proofs.BufferLaws.{written-out}
 use Rattle.marker.proofs.EncodedLaws.{encoding-passes}
-use Rattle.demands.specs.Passing.{EncodedPasses}
+use Rattle.demands.specs.Passing.{IsPassed, EncodedPasses}
 use Rattle.demands.proofs.PassingExactly.{is-passed}
 
 -- the front of what is left in the buffer
@@ -25,5 +25,6 @@ encoded-passes sheet n out bytes (there, good) room =
     front k (drop (sizeOf k) out) (outOf sheet n out) (written-out sheet n out there good room) in (
       sizeOf k,
       answer-written sheet n (length out) there good room,
-      rw written (is-passed sheet n (encoding k (sentOf k)) (encoding-passes sheet n bytes there good)),
+      subst (IsPassed sheet n) (sym written)
+          (is-passed sheet n (encoding k (sentOf k)) (encoding-passes sheet n bytes there good)),
     )
