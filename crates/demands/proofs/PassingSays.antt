@@ -3,8 +3,8 @@
 use Prim.Native.Nat.{ℕ, _+_, _*_, _/_, _%_, _<_}
 use mathlib.Core.Path.{_≡_, refl, sym, ap, _∙_}
 use mathlib.Core.List.{List}
-use mathlib.Core.Bool.{Bool, true, false, cond, true≢false}
-use mathlib.Core.Logic.{_⊎_, inl, inr, ⊎-elim}
+use mathlib.Core.Bool.{Bool, true, false, cond, false≢true}
+use mathlib.Core.Logic.{⊎-elim}
 use native.Mathlib.Omega.{arith}
 use lib.Dec.{eqb}
 use lib.ListN.{getD, take, drop}
@@ -52,10 +52,6 @@ pair-of-two k p a e =
 
 -- ---- what a group carries
 
--- the version is 0 or 1
-version-is : (w : ℕ) → (versionOf w ≡ 0) ⊎ (versionOf w ≡ 1)
-version-is w = ⊎-elim (λ l. inl (omega arith)) (λ l. inr (omega arith)) (lt-or-le (versionOf w) 1)
-
 module _ (s : List ℕ) (g : ℕ) where
   abbrev word2 : ℕ
   word2 = wordAt s g 1
@@ -80,7 +76,8 @@ module _ (s : List ℕ) (g : ℕ) where
       told : Carried s g → P (contentAt s g)
       told (a-name n) =
           ⊎-elim (λ v. rw (content-0A word2 word3 word4 (omega (arith, n, v))) (in-0A n))
-          (λ v. rw (content-0B word2 word3 word4 (omega (arith, n, v))) (in-0B n)) (version-is word2)
+          (λ v. rw (content-0B word2 word3 word4 (omega (arith, n, v))) (in-0B n))
+          (lt-or-le (versionOf word2) 1)
       told (a-2A t) = rw (content-2A word2 word3 word4 (omega (arith, t .0, t .1))) (in-2A t)
       told (a-2B t) = rw (content-2B word2 word3 word4 (omega (arith, t .0, t .1))) (in-2B t)
       told (a-clock n t e) = rw e (in-4A n t)
@@ -104,6 +101,10 @@ module _ (s : List ℕ) (g : ℕ) where
 
 -- ---- what it says
 
+-- where a test says no, nothing is asked
+none : {A : Type 0} → false ≡ true → A
+none e = absurd (false≢true e)
+
 module _ (k s : List ℕ) (g : ℕ) where
   pub says-header : HeaderRight k s g → SaysHeader (piOf k) (ptyOf k) (tpOf k) (groupAt s g)
   unfolding wordOf goodOf isAllGoodOf countsOf headerOf
@@ -117,9 +118,6 @@ module _ (k s : List ℕ) (g : ℕ) where
         (λ c. (i : ℕ) → i < 8 → hasName (i / 2) c ≡ true → characterOf i (nameWord c) ≡ getD (nameOf k) i 0)
         of-name of-name (λ _ _ _ e. none e) (λ _ _ _ e. none e) (λ _ _ _ _ e. none e) (λ _ _ _ _ e. none e)
       where
-        none : {A : Type 0} → false ≡ true → A
-        none e = absurd (true≢false (sym e))
-
         of-name : IsName s g → (i : ℕ) → i < 8 → eqb (i / 2) (nameAddress (wordAt s g 1)) ≡ true
             → characterOf i (wordAt s g 3) ≡ getD (nameOf k) i 0
         of-name n i l e =
@@ -143,9 +141,6 @@ module _ (k s : List ℕ) (g : ℕ) where
               (λ _ _ _ _ e. none e);
         }
       where
-        none : {A : Type 0} → false ≡ true → A
-        none e = absurd (true≢false (sym e))
-
         of-text : Is2A s g → (i : ℕ) → i < 64 → eqb (i / 2 / 2) (textAddress (wordAt s g 1)) ≡ true
             → characterOf i (cond (eqb (i / 2 % 2) 0) (wordAt s g 2) (wordAt s g 3)) ≡ getD (textOf k) i 0
         of-text t i l e =
