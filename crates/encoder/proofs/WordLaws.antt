@@ -9,6 +9,7 @@ use native.Mathlib.Omega.{arith}
 use lib.ListN.{length, getD}
 use lib.Dec.{eqb, ltb}
 use borrow.Author.Tests.{lt-ltb, le-ltb, eq-eqb, ne-eqb}
+use Rattle.bits.specs.Bytes.{Bytes}
 use Rattle.bits.proofs.Order.{lt-or-le}
 use Rattle.groups.specs.Header as header
 use Rattle.groups.specs.Content.{bitOf, headerOf, contentOf, switchesOf, nameAddress, textAddress, textFlag}
@@ -16,7 +17,7 @@ use Rattle.groups.specs.declared.fields.Switches.{Switches}
 use Rattle.groups.specs.declared.fields.Content.the-variants.{Name0A, Text2A}
 use Rattle.groups.proofs.RoundTrip.{Words}
 use Rattle.groups.proofs.Contents.{content-0A, content-2A}
-use Rattle.keys.specs.Fields.{Bytes, piOf, ptyOf, tpOf, namePairOf, textPairOf}
+use Rattle.keys.specs.Fields.{piOf, ptyOf, tpOf, namePairOf, textPairOf}
 use Rattle.keys.specs.Wanted.{nameAddresses, allAddresses}
 use Rattle.keys.specs.Good.{mostPty}
 use Rattle.keys.proofs.FieldLaws.{pi-lt, pty-lt, name-pair-lt, text-pair-lt}

@@ -7,7 +7,8 @@ use native.Mathlib.Omega.{arith}
 use lib.ListN.{getD}
 use lib.Dec.{leb}
 use borrow.Author.Tests.{le-leb, lt-leb}
-use Rattle.keys.specs.Fields.{Bytes, piPlace, namePairs, textPairs, nameByte, textByte}
+use Rattle.bits.specs.Bytes.{Bytes}
+use Rattle.keys.specs.Fields.{piPlace, namePairs, textPairs, nameByte, textByte}
 use Rattle.keys.specs.Fields.{pairOf, piOf, ptyOf, namePairOf, textPairOf}
 
 module _ (high low : ℕ) (below : low < 256) where

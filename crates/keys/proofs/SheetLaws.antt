@@ -13,8 +13,8 @@ use lib.ListN.{length, getD, take, drop, set, length-drop, length-take, drop-of-
 use lib.Seq.{length-take-le, getD-take, getD-drop, paste-suc}
 use lib.Dec.{eqb, ltb, leb}
 use borrow.Author.Tests.{eqb-true, eqb-false, ltb-false, leb-false, not-false, ne-eqb, eq-eqb, le-ltb, lt-leb}
+use Rattle.bits.specs.Bytes.{Bytes}
 use Rattle.keys.specs.Sheet.{recordSize, sheetLimit, HasExercise, noKey, keyAt}
-use Rattle.keys.specs.Fields.{Bytes}
 
 module _ (sheet : List ℕ) (n : ℕ) where
   pub has-exercise : noKey sheet n ≡ false → HasExercise sheet n

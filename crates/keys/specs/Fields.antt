@@ -1,5 +1,5 @@
 -- The fields of a key of 80 bytes: bytes 0-1 PI, high first; 2 PTY; 3 flags; 4-11 name; 12-75 text; 76-79 zero.
-use Prim.Native.Nat.{ℕ, _+_, _*_, _/_, _%_, _<_}
+use Prim.Native.Nat.{ℕ, _+_, _*_, _/_, _%_}
 use mathlib.Core.List.{List}
 use mathlib.Core.Bool.{Bool, cond}
 use lib.ListN.{getD}
@@ -30,10 +30,6 @@ namePairs = 4
 
 abbrev pub textPairs : ℕ
 textPairs = 32
-
--- every byte is below 256, as those of a slice or an array of bytes are
-abbrev pub Bytes : List ℕ → Type 0
-Bytes k = (i : ℕ) → getD k i 0 < 256
 
 -- the flags
 abbrev pub flagsOf : List ℕ → ℕ
