@@ -28,7 +28,8 @@ use Rattle.receiver.proofs.Feeds.{feed-one}
 pub shift-limit : (window bit : ℕ) → bit < 2 → shiftOf window bit < windowLimit
 shift-limit window bit h = omega arith
 
-tried-parts : (window : ℕ) (lock : Lock) → triedOf window lock ≡ answeringOf (huntedOf lock window pairBits) (lockAnswerOf lock)
+tried-parts : (window : ℕ) (lock : Lock)
+    → triedOf window lock ≡ answeringOf (huntedOf lock window pairBits) (lockAnswerOf lock)
 tried-parts window (At kind older newer) = refl
 tried-parts window No = refl
 
@@ -42,7 +43,8 @@ hunt-parts window count bit =
   where
     by : (test : Bool) (lock : Lock)
         → cond test (silentOf (huntingOf (shiftOf window bit) (count + 1))) (triedOf (shiftOf window bit) lock)
-        ≡ answeringOf (huntedOf (cond test No lock) (shiftOf window bit) (cond test (count + 1) pairBits)) (lockAnswerOf (cond test No lock))
+        ≡ answeringOf (huntedOf (cond test No lock) (shiftOf window bit) (cond test (count + 1) pairBits))
+        (lockAnswerOf (cond test No lock))
     by true lock = refl
     by false lock = tried-parts (shiftOf window bit) lock
 
@@ -77,7 +79,8 @@ module _ (s : List ℕ) (byte bit byte' bit' : ℕ) (h : byte < length s) (b : b
       → advanceOf r s byte bit ≡ advanceOf x s byte' bit'
   quiet-bit r x q = feed-one r s byte bit byte' bit' h b e b' ∙ ap (λ (t : Step). thenOf (stoppedOf t byte' bit') s) q
 
-  pub hunt-bit : (window count : ℕ) → isLockOf (lockAfterOf (shiftOf window (bitAt s (byteBits * byte + bit))) count) ≡ false
+  pub hunt-bit : (window count : ℕ)
+      → isLockOf (lockAfterOf (shiftOf window (bitAt s (byteBits * byte + bit))) count) ≡ false
       → advanceOf (huntingOf window count) s byte bit
       ≡ advanceOf (huntingOf (shiftOf window (bitAt s (byteBits * byte + bit))) (countAfterOf count)) s byte' bit'
   hunt-bit window count q =
@@ -93,7 +96,8 @@ module _ (s : List ℕ) (byte bit byte' bit' : ℕ) (h : byte < length s) (b : b
 -- ---- a state and its window and count
 
 -- where there is a bit to feed, a hunting state is its window and its count
-pub hunting-bare : (r : Receiver) (s : List ℕ) (byte bit : ℕ) → byte < length s → bit < byteBits → isHuntingOf (r .place) ≡ true
+pub hunting-bare : (r : Receiver) (s : List ℕ) (byte bit : ℕ) → byte < length s → bit < byteBits
+    → isHuntingOf (r .place) ≡ true
     → advanceOf r s byte bit ≡ advanceOf (huntingOf (r .window) (r .count)) s byte bit
 hunting-bare r s byte bit h b p =
     let i : ℕ = byteBits * byte + bit in

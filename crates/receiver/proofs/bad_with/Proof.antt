@@ -16,10 +16,18 @@ add-result : tie.Need-add-result
 add-result c = search needs
 
 returns : tie.Need-returns
-returns c = rw (← c .before .before .is-bad .ensures, c .before .if1 .taken, lt-ltb (c .before .before .before .args .bad) runBlocks (omega arith))
+returns c = rw (
+  ← c .before .before .is-bad .ensures,
+  c .before .if1 .taken,
+  lt-ltb (c .before .before .before .args .bad) runBlocks (omega arith),
+)
 
 returns-2 : tie.Need-returns-2
-returns-2 c = rw (← c .before .before .is-bad .ensures, c .before .if1 .taken, le-ltb (c .before .before .before .args .bad) runBlocks (omega arith))
+returns-2 c = rw (
+  ← c .before .before .is-bad .ensures,
+  c .before .if1 .taken,
+  le-ltb (c .before .before .before .args .bad) runBlocks (omega arith),
+)
 
 returns-3 : tie.Need-returns-3
 returns-3 c = search needs

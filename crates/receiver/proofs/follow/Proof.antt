@@ -28,7 +28,11 @@ answering-requires c κs = search needs
 
 returns : tie.Need-returns
 unfolding followOf
-returns c = rw (lt-ltb (c .before .before .before .args .receiver .count + 1) blockBits (omega arith), c .answering .ensures, c .before .before .shifted .ensures)
+returns c = rw (
+  lt-ltb (c .before .before .before .args .receiver .count + 1) blockBits (omega arith),
+  c .answering .ensures,
+  c .before .before .shifted .ensures,
+)
 
 cast-judge-at : tie.Need-cast-judge-at
 cast-judge-at c = search needs
@@ -41,7 +45,12 @@ end-requires c κs = search needs
 
 returns-2 : tie.Need-returns-2
 unfolding followOf
-returns-2 c = rw (le-ltb (c .before .before .before .before .args .receiver .count + 1) blockBits (omega arith), c .end .ensures, c .before .judge-at .ensures, c .before .before .before .shifted .ensures)
+returns-2 c = rw (
+  le-ltb (c .before .before .before .before .args .receiver .count + 1) blockBits (omega arith),
+  c .end .ensures,
+  c .before .judge-at .ensures,
+  c .before .before .before .shifted .ensures,
+)
 
 pub follow-spec : {M : Type 1} → statement M
 follow-spec =

@@ -24,7 +24,12 @@ begin-requires c κs = search needs
 
 returns : tie.Need-returns
 returns c = let a = c .before .before .before .before .args in
-    rw (c .begin .ensures, c .before .locked-hand .ensures, c .before .before .locked-held .ensures, c .before .before .before .locked-place .ensures)
+    rw (
+      c .begin .ensures,
+      c .before .locked-hand .ensures,
+      c .before .before .locked-held .ensures,
+      c .before .before .before .locked-place .ensures,
+    )
     (locked-parts (a .kind) (a .older) (a .newer))
 
 pub locked-spec : {M : Type 1} → statement M

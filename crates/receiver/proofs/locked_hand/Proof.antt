@@ -35,7 +35,12 @@ with-block-requires-3 : tie.Need-with-block-requires-3
 with-block-requires-3 c κs = search needs
 
 returns : tie.Need-returns
-returns c = rw (c .before .before .enum-told .given .1, c .with-block2 .ensures, c .before .with-block .ensures, c .before .before .before .before .empty .ensures)
+returns c = rw (
+  c .before .before .enum-told .given .1,
+  c .with-block2 .ensures,
+  c .before .with-block .ensures,
+  c .before .before .before .before .empty .ensures,
+)
 
 returns-2 : tie.Need-returns-2
 returns-2 c = search needs

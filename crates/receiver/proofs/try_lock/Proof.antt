@@ -33,7 +33,13 @@ enum-told-2 c = search needs
 
 returns : tie.Need-returns
 unfolding lockOf
-returns c = rw (← c .before .before .before .before .before .before .read .ensures .0, c .before .before .before .before .found .given .1, c .joined .ensures, c .before .judge .ensures .0, c .before .before .follower .ensures)
+returns c = rw (
+  ← c .before .before .before .before .before .before .read .ensures .0,
+  c .before .before .before .before .found .given .1,
+  c .joined .ensures,
+  c .before .judge .ensures .0,
+  c .before .before .follower .ensures,
+)
 
 returns-2 : tie.Need-returns-2
 unfolding lockOf

@@ -14,7 +14,8 @@ use Rattle.saving.proofs.number_at.Lts as lts
 use Rattle.saving.proofs.byte_at.Reads as byte-at-reads
 
 abbrev Inv-loop : tie.InvT-loop
-Inv-loop bytes from many number₀ i₀ number i = (i ≤ many) × (number ≡ spell (bitAt bytes) (byteBits * from) (byteBits * i))
+Inv-loop bytes from many number₀ i₀ number i = (i ≤ many)
+    × (number ≡ spell (bitAt bytes) (byteBits * from) (byteBits * i))
 
 abbrev μ-loop : tie.MeasureT-loop
 μ-loop bytes from many number₀ i₀ number i = many - i
@@ -26,7 +27,8 @@ loop-holds c = (search needs, refl)
 
 -- src/lib.rt:127:18
 mul-number : tie.Need-mul-number Inv-loop μ-loop
-mul-number c = let a = c .before .before .before .args in let l = c .before .loop in omega (arith, rw (← l .inv .1) at (spell-room (a .bytes .now) (byteBits * a .from) (l .i) (omega arith)))
+mul-number c = let a = c .before .before .before .args in let l = c .before .loop in
+    omega (arith, rw (← l .inv .1) at (spell-room (a .bytes .now) (byteBits * a .from) (l .i) (omega arith)))
 
 -- src/lib.rt:127:49
 add-byte-at : tie.Need-add-byte-at Inv-loop μ-loop
@@ -42,7 +44,8 @@ cast-number c = search needs
 
 -- src/lib.rt:127:18
 add-number : tie.Need-add-number Inv-loop μ-loop
-add-number c = let a = c .before .before .before .before .args in let l = c .before .before .loop in omega (arith, rw (← l .inv .1) at (spell-room (a .bytes .now) (byteBits * a .from) (l .i) (omega arith)))
+add-number c = let a = c .before .before .before .before .args in let l = c .before .before .loop in
+    omega (arith, rw (← l .inv .1) at (spell-room (a .bytes .now) (byteBits * a .from) (l .i) (omega arith)))
 
 -- src/lib.rt:128:9
 add-i : tie.Need-add-i Inv-loop μ-loop
@@ -54,12 +57,17 @@ loop-less c = search needs
 
 -- src/lib.rt:126:5
 loop-again : tie.Need-loop-again Inv-loop μ-loop
-loop-again c = let a = c .before .before .before .before .args in let l = c .before .before .loop in
-    (search needs, sym (spell-next (a .bytes .now) (λ j. omega (arith, c .before .before .before .shared-slice-known .given j)) (a .from) (l .i) ∙ rw (l .inv .1, c .byte-at .ensures .0)))
+loop-again c = let a = c .before .before .before .before .args in let l = c .before .before .loop in (
+  search needs,
+  sym (spell-next (a .bytes .now)
+      (λ j. omega (arith, c .before .before .before .shared-slice-known .given j)) (a .from) (l .i)
+      ∙ rw (l .inv .1, c .byte-at .ensures .0)),
+)
 
 -- src/lib.rt:120:1
 returns : tie.Need-returns Inv-loop μ-loop
-returns c = let a = c .before .before .before .args in let l = c .before .loop in let e : l .i ≡ a .many = omega arith in rw e at (l .inv .1)
+returns c = let a = c .before .before .before .args in let l = c .before .loop in let e : l .i ≡ a .many = omega arith in
+    rw e at (l .inv .1)
 
 pub number-at-spec : {M : Type 1} → statement M
 number-at-spec =

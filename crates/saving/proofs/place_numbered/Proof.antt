@@ -32,7 +32,14 @@ returns-6 c = rw (c .match .keys6)
 -- src/lib.rt:53:1
 returns-7 : tie.Need-returns-7
 returns-7 c = let n = c .before .args .number in let w = c .match .rest in
-    rw (ne-eqb n 1 (w .0 .0 .0 .0 .0 .1), ne-eqb n 2 (w .0 .0 .0 .0 .1), ne-eqb n 3 (w .0 .0 .0 .1), ne-eqb n 4 (w .0 .0 .1), ne-eqb n 5 (w .0 .1), ne-eqb n 6 (w .1))
+    rw (
+      ne-eqb n 1 (w .0 .0 .0 .0 .0 .1),
+      ne-eqb n 2 (w .0 .0 .0 .0 .1),
+      ne-eqb n 3 (w .0 .0 .0 .1),
+      ne-eqb n 4 (w .0 .0 .1),
+      ne-eqb n 5 (w .0 .1),
+      ne-eqb n 6 (w .1),
+    )
 
 pub place-numbered-spec : {M : Type 1} → statement M
 place-numbered-spec =

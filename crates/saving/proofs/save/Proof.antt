@@ -26,8 +26,11 @@ abbrev μ-loop : tie.MeasureT-loop
 -- src/lib.rt:165:13
 returns : tie.Need-returns Inv-loop μ-loop
 unfolding saveOf bufferOf
-returns c = let n = length (c .before .before .args .out .now) in
-    (rw (lt-ltb n stateLength (omega arith)), rw (lt-ltb n stateLength (omega arith)), rw (lt-ltb n stateLength (omega arith)))
+returns c = let n = length (c .before .before .args .out .now) in (
+  rw (lt-ltb n stateLength (omega arith)),
+  rw (lt-ltb n stateLength (omega arith)),
+  rw (lt-ltb n stateLength (omega arith)),
+)
 
 -- src/lib.rt:167:21
 state-bytes-requires : tie.Need-state-bytes-requires Inv-loop μ-loop
@@ -35,7 +38,12 @@ state-bytes-requires c κs = search needs
 
 -- src/lib.rt:169:9
 loop-holds : tie.Need-loop-holds Inv-loop μ-loop
-loop-holds c = (search needs, refl, refl, rw (c .state-bytes .ensures) (state-length (c .before .before .before .args .receiver)))
+loop-holds c = (
+  search needs,
+  refl,
+  refl,
+  rw (c .state-bytes .ensures) (state-length (c .before .before .before .args .receiver)),
+)
 
 -- src/lib.rt:170:22
 array-read-out : tie.Need-array-read-out Inv-loop μ-loop
@@ -74,7 +82,8 @@ returns-2 c = let l = c .before .loop in let out = c .before .before .before .be
     let n : ltb (length out) stateLength ≡ false = le-ltb (length out) stateLength (omega arith) in (
       rw n,
       rw n,
-      rw (n, ← c .before .before .state-bytes .ensures) (rw e at (l .inv .1) ∙ copied (c .before .before .state-bytes .result) out stateLength (l .inv .3)),
+      rw (n, ← c .before .before .state-bytes .ensures)
+          (rw e at (l .inv .1) ∙ copied (c .before .before .state-bytes .result) out stateLength (l .inv .3)),
     )
 
 pub save-spec : {M : Type 1} → statement M

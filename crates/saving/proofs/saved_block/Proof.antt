@@ -38,11 +38,19 @@ number-at-requires c κs = search needs
 -- src/lib.rt:139:22
 cast-t10 : tie.Need-cast-t10
 cast-t10 c = let a = c .before .before .before .before .args in
-    omega (arith, rw (← c .number-at .ensures) at (spell-lt (bitAt (a .bytes .now)) (bitAt-lt (a .bytes .now)) (byteBits * (wordsAt + 2 * a .i)) 16))
+    omega (
+      arith,
+      rw (← c .number-at .ensures) at
+          (spell-lt (bitAt (a .bytes .now)) (bitAt-lt (a .bytes .now)) (byteBits * (wordsAt + 2 * a .i)) 16),
+    )
 
 -- src/lib.rt:134:1
 returns : tie.Need-returns
-returns c = rw (← c .before .before .byte-at .ensures .0, lt-ltb 0 (c .before .before .byte-at .result) (c .before .if1 .taken), c .number-at .ensures)
+returns c = rw (
+  ← c .before .before .byte-at .ensures .0,
+  lt-ltb 0 (c .before .before .byte-at .result) (c .before .if1 .taken),
+  c .number-at .ensures,
+)
 
 -- src/lib.rt:134:1
 returns-2 : tie.Need-returns-2

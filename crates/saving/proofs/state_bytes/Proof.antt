@@ -147,8 +147,12 @@ flag-requires-5 c κs = search needs
 -- src/lib.rt:75:1
 returns : tie.Need-returns
 returns c =
-    state-bytes-are (c .before .before .before .before .before .before .before .before .before .args .receiver) _ _ _ _ _ _ (c .before .before .before .before .before .place-number .ensures) (c .before .before .before .before .flag .ensures)
-    (c .before .before .before .flag2 .ensures) (c .before .before .flag3 .ensures) (c .before .flag4 .ensures) (c .flag5 .ensures)
+    state-bytes-are
+    (c .before .before .before .before .before .before .before .before .before .args .receiver) _ _ _ _ _ _
+    (c .before .before .before .before .before .place-number .ensures)
+    (c .before .before .before .before .flag .ensures)
+    (c .before .before .before .flag2 .ensures) (c .before .before .flag3 .ensures) (c .before .flag4 .ensures)
+    (c .flag5 .ensures)
 
 pub state-bytes-spec : {M : Type 1} → statement M
 state-bytes-spec =

@@ -15,7 +15,8 @@ use Rattle.receiver.proofs.feeding.resting.Reads as resting-reads
 use Rattle.receiver.proofs.feeding.some_fed.Reads as some-fed-reads
 
 abbrev Inv-loop : tie.InvT-loop
-Inv-loop bytes byte bit next₀ at₀ inside₀ next at inside = (advanceOf next₀ bytes byte bit ≡ advanceOf next bytes at inside) × (inside < byteBits)
+Inv-loop bytes byte bit next₀ at₀ inside₀ next at inside =
+    (advanceOf next₀ bytes byte bit ≡ advanceOf next bytes at inside) × (inside < byteBits)
 
 abbrev μ-loop : tie.MeasureT-loop
 μ-loop bytes byte bit next₀ at₀ inside₀ next at inside = byteBits * length bytes - (byteBits * at + inside)
@@ -28,7 +29,8 @@ resting-requires c κs = search needs
 returns : tie.Need-returns Inv-loop μ-loop
 returns c = let a = c .before .before .before .args in
     rw (c .resting .ensures)
-    (advance-settled _ (a .self) (a .bytes .now) (a .byte) (a .bit) (advance-no-bit (a .self) (a .bytes .now) (a .byte) (a .bit) (omega arith)))
+    (advance-settled _ (a .self) (a .bytes .now) (a .byte) (a .bit)
+    (advance-no-bit (a .self) (a .bytes .now) (a .byte) (a .bit) (omega arith)))
 
 -- src/feeding.rt:211:9
 loop-holds : tie.Need-loop-holds Inv-loop μ-loop
@@ -44,13 +46,18 @@ is-nothing-requires c κs = search needs
 
 -- src/feeding.rt:211:9
 loop-less : tie.Need-loop-less Inv-loop μ-loop
-loop-less c = omega (arith, c .before .before .before .some-fed .ensures .moved, c .before .before .before .some-fed .ensures .within)
+loop-less c = omega (
+  arith,
+  c .before .before .before .some-fed .ensures .moved,
+  c .before .before .before .some-fed .ensures .within,
+)
 
 -- src/feeding.rt:211:9
 loop-again : tie.Need-loop-again Inv-loop μ-loop
 loop-again c = (
   c .before .before .before .before .before .loop .inv .0 ∙ c .before .before .before .some-fed .ensures .whole
-      ∙ then-on (c .before .before .before .some-fed .result) _ (sym (c .before .before .is-nothing .ensures) ∙ c .before .if2 .taken),
+      ∙ then-on (c .before .before .before .some-fed .result) _
+      (sym (c .before .before .is-nothing .ensures) ∙ c .before .if2 .taken),
   c .before .before .before .some-fed .ensures .within,
 )
 

@@ -27,7 +27,8 @@ returns : tie.Need-returns
 returns c = let a = c .before .before .before .before .before .args in
     record {
       whole = rw (c .stopped .ensures, c .before .before .step .ensures .0, c .before .before .before .bit-of .ensures)
-          (feed-one (a .receiver) (a .bytes .now) (a .byte) (a .bit) _ _ (omega arith) (omega arith) (c .before .onward .ensures .0) (c .before .onward .ensures .1));
+          (feed-one (a .receiver) (a .bytes .now) (a .byte) (a .bit) _ _ (omega arith) (omega arith)
+          (c .before .onward .ensures .0) (c .before .onward .ensures .1));
       moved = rw (c .stopped .ensures) (omega arith);
       within = rw (c .stopped .ensures) (c .before .onward .ensures .1);
     }

@@ -56,10 +56,12 @@ loop-less c = search needs
 
 -- src/feeding.rt:134:5
 loop-again : tie.Need-loop-again Inv-loop μ-loop
-loop-again c = let l = c .before .before .before .before .before .loop in let s = c .before .before .before .before .before .before .before .args .bytes .now in
+loop-again c = let l = c .before .before .before .before .before .loop in
+    let s = c .before .before .before .before .before .before .before .args .bytes .now in
     let e = c .before .shifted .ensures ∙ ap (shiftOf (l .last)) (c .before .before .bit-of .ensures) in (
       (λ r h. l .inv .0 r h
-          ∙ inside-bit s (l .at) (l .inside) _ _ (omega arith) (l .inv .1) (c .onward .ensures .0) (c .onward .ensures .1)
+          ∙ inside-bit s (l .at) (l .inside) _ _ (omega arith) (l .inv .1) (c .onward .ensures .0)
+          (c .onward .ensures .1)
           r (l .last) (l .many) h (omega arith)
           ∙ rw (← e)),
       c .onward .ensures .1,

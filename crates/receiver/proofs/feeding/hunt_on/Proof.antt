@@ -26,7 +26,8 @@ Inv-loop window count bytes byte bit last₀ many₀ at₀ inside₀ last many a
     × (inside < byteBits) × (byteBits * byte + bit ≤ byteBits * at + inside)
 
 abbrev μ-loop : tie.MeasureT-loop
-μ-loop window count bytes byte bit last₀ many₀ at₀ inside₀ last many at inside = byteBits * length bytes - (byteBits * at + inside)
+μ-loop window count bytes byte bit last₀ many₀ at₀ inside₀ last many at inside =
+    byteBits * length bytes - (byteBits * at + inside)
 
 -- src/feeding.rt:101:5
 loop-holds : tie.Need-loop-holds Inv-loop μ-loop
@@ -44,7 +45,8 @@ shifted-requires c κs = search needs
 lock-after-requires : tie.Need-lock-after-requires Inv-loop μ-loop
 lock-after-requires c κs = let l = c .before .before .before .loop in
     rw (c .shifted .ensures, c .before .bit-of .ensures)
-    (shift-limit (l .last) _ (bitAt-lt (c .before .before .before .before .before .args .bytes .now) (byteBits * l .at + l .inside)))
+    (shift-limit (l .last) _ (bitAt-lt (c .before .before .before .before .before .args .bytes .now)
+    (byteBits * l .at + l .inside)))
 
 -- src/feeding.rt:103:12
 is-lock-requires : tie.Need-is-lock-requires Inv-loop μ-loop
@@ -64,11 +66,15 @@ loop-less c = omega (arith, c .before .onward .ensures .0)
 
 -- src/feeding.rt:101:5
 loop-again : tie.Need-loop-again Inv-loop μ-loop
-loop-again c = let l = c .before .before .before .before .before .before .before .before .loop in let s = c .before .before .before .before .before .before .before .before .before .before .args .bytes .now in
-    let e = c .before .before .before .before .before .shifted .ensures ∙ ap (shiftOf (l .last)) (c .before .before .before .before .before .before .bit-of .ensures) in
-    let q = ap isLockOf (sym (c .before .before .before .before .lock-after .ensures)) ∙ sym (c .before .before .before .is-lock .ensures) ∙ c .before .before .if1 .left in (
+loop-again c = let l = c .before .before .before .before .before .before .before .before .loop in
+    let s = c .before .before .before .before .before .before .before .before .before .before .args .bytes .now in
+    let e = c .before .before .before .before .before .shifted .ensures
+    ∙ ap (shiftOf (l .last)) (c .before .before .before .before .before .before .bit-of .ensures) in
+    let q = ap isLockOf (sym (c .before .before .before .before .lock-after .ensures))
+    ∙ sym (c .before .before .before .is-lock .ensures) ∙ c .before .before .if1 .left in (
       l .inv .0
-          ∙ hunt-bit s (l .at) (l .inside) _ _ (omega arith) (l .inv .1) (c .before .onward .ensures .0) (c .before .onward .ensures .1)
+          ∙ hunt-bit s (l .at) (l .inside) _ _ (omega arith) (l .inv .1) (c .before .onward .ensures .0)
+          (c .before .onward .ensures .1)
           (l .last) (l .many) (rw (← e) q)
           ∙ rw (← e, ← c .count-after .ensures),
       c .before .onward .ensures .1,
@@ -81,7 +87,8 @@ returns c = let l = c .before .loop in record { whole = l .inv .0; moved = l .in
 
 -- src/feeding.rt:93:1
 returns-2 : tie.Need-returns-2 Inv-loop μ-loop
-returns-2 c = let l = c .before .before .before .before .before .before .loop in record { whole = l .inv .0; moved = l .inv .2; within = l .inv .1 }
+returns-2 c = let l = c .before .before .before .before .before .before .loop in
+    record { whole = l .inv .0; moved = l .inv .2; within = l .inv .1 }
 
 pub hunt-on-spec : {M : Type 1} → statement M
 hunt-on-spec =
