@@ -7,3 +7,4 @@ pub mod PassingSays
 pub mod PassingRecord
 pub mod PassingDamage
 pub mod Passing
+pub mod OneAnswer
