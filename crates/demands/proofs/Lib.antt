@@ -1,5 +1,8 @@
 -- The claims hold.
 pub mod Points
+pub mod Words
+pub mod Marks
+pub mod Refusals
 pub mod PassingExactly
 pub mod PassingEncoded
 pub mod PassingHeard

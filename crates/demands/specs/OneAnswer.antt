@@ -1,6 +1,6 @@
 -- No second answer: for each public function, two answers that meet its promise are equal, and where something is lent,
--- so is the whole of it at the two exits. The promise is the function's own `ensures`, as its callers learn it (`Learnt`,
--- which is made from the contract in src/); nothing of it is written again here.
+-- so is the whole of it at the two exits. The promise is the function's own `ensures`, as its callers learn it
+-- (`Learnt`, which is made from the contract in src/); nothing of it is written again here.
 use mathlib.Core.Path.{_≡_, refl}
 use contract.Lifetimes.{Lfts}
 use denote.Ref.{now}
