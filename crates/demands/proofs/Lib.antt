@@ -3,6 +3,7 @@ pub mod Points
 pub mod Words
 pub mod Marks
 pub mod Refusals
+pub mod ReadBack
 pub mod PassingExactly
 pub mod PassingEncoded
 pub mod PassingHeard

@@ -11,9 +11,9 @@ use Rattle.keys.specs.Good.{GoodKey}
 use Rattle.keys.specs.Wanted.{wantedAddress}
 use Rattle.keys.proofs.AnswerLaws.{exercise-dec}
 use Rattle.keys.proofs.WantedLaws.{address-wanted, wanted-address}
-use Rattle.marker.specs.Submission.{groupsIn, blocksIn}
+use Rattle.marker.specs.Submission.{groupsIn}
 use Rattle.marker.specs.Tests.{lengthWrong, headerWrongAt, contentWrongAt}
-use Rattle.marker.specs.Rules.{GoodLength, BlocksRight, HeaderRight, ContentRight, GroupRight, Came, KeyGood, Told}
+use Rattle.marker.specs.Rules.{GoodLength, BlocksRight, HeaderRight, ContentRight, GroupRight, KeyGood, Told}
 use Rattle.marker.specs.Mark.{markOf}
 use Rattle.marker.specs.Verdict.{numberOf, placeOf}
 use Rattle.marker.specs.declared.Verdict.{Verdict}
@@ -22,7 +22,7 @@ use Rattle.marker.specs.declared.Verdict.the-variants.{BadContent, Missing}
 use Rattle.marker.proofs.RuleLaws.{length-right, right-length, header-right, right-header, content-right, right-content}
 use Rattle.marker.proofs.TableLaws.{number-told, told-number}
 use Rattle.demands.specs.When.{NoExercise, WrongLength, Opened, FirstInvalid, HeaderWrong, ContentWrong}
-use Rattle.demands.specs.When.{NoneBefore, Wanted, LowestMissing}
+use Rattle.demands.specs.When.{NoneBefore, LowestMissing}
 use Rattle.demands.specs.Refusals.{Marked}
 use Rattle.demands.proofs.Words.{no-exercise, wrong-length, header-wrong, content-wrong, address-is-wanted}
 

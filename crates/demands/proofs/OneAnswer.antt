@@ -1,8 +1,8 @@
 -- No second answer: each promise says that the answer is equal to a definition at the arguments, and what was lent to
 -- another. Two things that are equal to a third are equal.
 use mathlib.Core.Path.{_≡_, refl, sym, _∙_}
-use Rattle.demands.specs.OneAnswer.{Blocks, Groups, Fields, Bytes, Frequencies, Clock, Receiver, Station, Held}
-use Rattle.demands.specs.OneAnswer.{Keys, Encoder, Marker, Every}
+use Rattle.demands.specs.OneAnswer.{Blocks, Groups, Fields, Bytes, Frequencies, Clock, Receiver, Saving}
+use Rattle.demands.specs.OneAnswer.{Station, Held, Keys, Encoder, Marker, Every}
 
 equation-settles : {A : Type 0} {x y z : A} → x ≡ z → y ≡ z → x ≡ y
 equation-settles p q = p ∙ sym q
@@ -82,6 +82,13 @@ receiver =
       advance = λ κs a r r′ e e′ p q. equation-settles (p .0) (q .0);
     }
 
+saving : Saving
+saving =
+    record {
+      save = λ κs a r r′ e e′ p q. (equation-settles (p .0) (q .0), equation-settles (p .2) (q .2));
+      restore = λ κs a r r′ e e′ p q. equation-settles p q;
+    }
+
 station : Station
 station =
     record {
@@ -145,6 +152,7 @@ no-second-answer =
       frequencies = frequencies;
       clock = clock;
       receiver = receiver;
+      saving = saving;
       station = station;
       held = held;
       keys = keys;

@@ -6,27 +6,25 @@ use mathlib.Core.Bool.{Bool, true, false}
 use mathlib.Core.Logic.{_↔_, ⊎-elim, Iff·trans}
 use native.Mathlib.Omega.{arith}
 use lib.ListN.{length}
-use borrow.Author.Tests.{le-ltb}
+use borrow.Author.Tests.{lt-ltb, le-ltb}
 use Rattle.bits.proofs.Order.{lt-or-le}
 use Rattle.blocks.proofs.Reading.{read-number, judge-number, length-12, length-over}
-use Rattle.groups.specs.Written.{groupSize, noRoom, putAtOf, putNumber, bufferOf}
+use Rattle.groups.specs.Written.{groupSize, noRoom, putAtOf, putNumber}
 use Rattle.groups.proofs.RoomLaws.{put-short}
 use Rattle.frequencies.proofs.FrequencyLaws.{frequency-refused, code-refused}
 use Rattle.clock.proofs.Numbers.{write-10, date-10}
 use Rattle.receiver.specs.declared.Receiver.{Receiver}
 use Rattle.receiver.specs.declared.Step.{Step}
-use Rattle.receiver.specs.Machine.{stepOf}
-use Rattle.receiver.specs.Answers.{answerNumber}
 use Rattle.receiver.proofs.Refusal.{refused-9, only-refused-9, refused-same}
 use Rattle.receiver.proofs.Feeds.{advance-number}
+use Rattle.saving.specs.Saving.{stateLength, saveOf, savedNumber, bufferOf}
 use Rattle.keys.specs.Sheet.{HasExercise, keyAt}
 use Rattle.keys.specs.Fields.{wantedOf}
 use Rattle.keys.specs.Good.{GoodKey}
-use Rattle.keys.specs.Asked.{keyOf, keyNumberOf}
+use Rattle.keys.specs.Asked.{keyNumberOf}
 use Rattle.keys.specs.declared.Asked.{Asked}
 use Rattle.keys.proofs.AnswerLaws.{one-is-none, two-is-bad, none-is-one, bad-is-two}
 use Rattle.encoder.specs.Encoding.{sizeOf}
-use Rattle.encoder.specs.Answer.{outOf}
 use Rattle.encoder.proofs.SizeLaws.{size-wanted, size-unwanted}
 use Rattle.encoder.proofs.AnswerLaws.{number-1, number-2, number-8}
 use Rattle.encoder.proofs.BufferLaws.{refused-same as encoder-same}
@@ -121,6 +119,19 @@ module _ (out : List ℕ) (at : ℕ) where
     λ l. ap putNumber (sym (put-short out out at l .0)),
   )
 
+module _ (out : List ℕ) where
+  save-8 : (savedNumber (saveOf out) ≡ 8) ↔ (length out < stateLength)
+  unfolding saveOf
+  save-8 = (
+    λ e. ⊎-elim (λ l. l) (λ l. absurd (omega (arith, rw (le-ltb (length out) stateLength l) at e)))
+        (lt-or-le (length out) stateLength),
+    λ l. rw (lt-ltb (length out) stateLength l),
+  )
+
+  save-same : (r : Receiver) → length out < stateLength → bufferOf r out ≡ out
+  unfolding bufferOf
+  save-same r l = rw (lt-ltb (length out) stateLength l)
+
 pub row-eight : RowEight
 row-eight =
     record {
@@ -128,6 +139,8 @@ row-eight =
       encode-same = buffer-stays 8 (omega arith);
       put-at = put-8;
       put-at-same = λ words out at e. sym (put-short words out at (put-8 out at .0 e) .2);
+      save = save-8;
+      save-same = λ r out e. save-same out r (save-8 out .0 e);
     }
 
 -- ---- 9

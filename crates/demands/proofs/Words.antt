@@ -1,10 +1,10 @@
 -- The rows' own words say the same as the rules of the marker and the keys: each condition of a row holds exactly if
 -- its rule does not. What a rule says is decided part by part.
-use Prim.Native.Nat.{ℕ, zero, suc, _+_, _*_, _/_, _%_, _<_, _≤_}
-use mathlib.Core.Path.{_≡_, refl, sym, _∙_}
+use Prim.Native.Nat.{ℕ, suc, _+_, _*_, _/_, _%_, _<_, _≤_}
+use mathlib.Core.Path.{_≡_, refl}
 use mathlib.Core.List.{List}
-use mathlib.Core.Bool.{Bool, true, false, Bool-discrete, true≢false}
-use mathlib.Core.Logic.{_↔_, _⊎_, inl, inr, ⊎-elim}
+use mathlib.Core.Bool.{Bool, true, false, Bool-discrete}
+use mathlib.Core.Logic.{_↔_, _⊎_, inl, inr}
 use native.Mathlib.Decide.{ℕ-discrete, decLt}
 use native.Mathlib.Omega.{arith}
 use lib.ListN.{length}
@@ -15,15 +15,15 @@ use Rattle.groups.specs.Content.{nameAddress, textAddress, textFlag}
 use Rattle.groups.specs.Written.{groupSize}
 use Rattle.keys.specs.Sheet.{recordSize, sheetLimit, HasExercise}
 use Rattle.keys.specs.Fields.{piOf, ptyOf, tpOf, wantedOf, namePairOf, textPairOf}
-use Rattle.keys.specs.Wanted.{nameAddresses, allAddresses, addressesOf, wantedAddress}
+use Rattle.keys.specs.Wanted.{addressesOf, wantedAddress}
 use Rattle.keys.proofs.WantedLaws.{address-wanted, wanted-address, addresses-wanted, addresses-unwanted}
-use Rattle.keys.proofs.WantedLaws.{addresses-least, addresses-most}
+use Rattle.keys.proofs.WantedLaws.{addresses-least}
 use Rattle.marker.specs.Submission.{wordAt}
 use Rattle.marker.specs.Tests.{submissionLimit, textAt, is2A}
 use Rattle.marker.specs.First.{first}
 use Rattle.marker.specs.declared.checks.Found.{Found}
 use Rattle.marker.specs.declared.checks.Found.the-variants.{At, Nowhere}
-use Rattle.marker.specs.Rules.{GoodLength, IsName, Is2A, Is2B, First2A, SameFlag, HeaderRight, ContentRight}
+use Rattle.marker.specs.Rules.{GoodLength, IsName, Is2A, First2A, SameFlag, HeaderRight, ContentRight}
 use Rattle.marker.proofs.FirstLaws.{at-first, none-first}
 use Rattle.marker.proofs.RuleLaws.{is-2A, not-2A}
 use Rattle.demands.specs.When as when

@@ -3,5 +3,6 @@
 pub mod Points
 pub mod When
 pub mod Refusals
+pub mod ReadBack
 pub mod Passing
 pub mod OneAnswer

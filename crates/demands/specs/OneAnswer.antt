@@ -14,6 +14,7 @@ use Rattle.groups.proofs as groups
 use Rattle.frequencies.proofs as frequencies
 use Rattle.clock.proofs as clock
 use Rattle.receiver.proofs as receiver
+use Rattle.saving.proofs as saving
 use Rattle.station.proofs as station
 use Rattle.keys.proofs as keys
 use Rattle.encoder.proofs as encoder
@@ -113,6 +114,11 @@ pub record Receiver : Type 0 where
   pub step : OneAnswer receiver.Receiver.step.ended receiver.Receiver.step.Reads.Learnt
   pub advance : OneAnswer receiver.Receiver.advance.ended receiver.Receiver.advance.Reads.Learnt
 
+-- saving: the state as bytes, and back; `save` is lent a buffer
+pub record Saving : Type 0 where
+  pub save : OneExit saving.save.ended (λ κs e. now (e .1 .0)) saving.save.Reads.Learnt
+  pub restore : OneAnswer saving.restore.ended saving.restore.Reads.Learnt
+
 -- station: the record after a group; `take_in` is lent the record
 pub record Station : Type 0 where
   pub fresh : OneAnswer station.fresh.ended station.fresh.Reads.Learnt
@@ -165,6 +171,7 @@ pub record Every : Type 0 where
   pub frequencies : Frequencies
   pub clock : Clock
   pub receiver : Receiver
+  pub saving : Saving
   pub station : Station
   pub held : Held
   pub keys : Keys

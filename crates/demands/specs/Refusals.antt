@@ -1,7 +1,7 @@
 -- Demand 1: each refusal is given with its number exactly if the table says so, and leaves what was lent as it was. A
 -- claim for each row of the table, 1 to 12, for every function that gives its number. Sheets, submissions and the bits
 -- of a block are only looked at, and cannot change; lent or handed back are the buffers and the receiver's state.
-use Prim.Native.Nat.{ℕ, _+_, _*_, _^_, _<_, _≤_}
+use Prim.Native.Nat.{ℕ, _+_, _^_, _<_, _≤_}
 use mathlib.Core.Path.{_≡_}
 use mathlib.Core.List.{List}
 use mathlib.Core.Bool.{Bool}
@@ -20,6 +20,8 @@ use Rattle.receiver.specs.Machine.{stepOf}
 use Rattle.receiver.specs.Feeding.{advanceOf}
 use Rattle.receiver.specs.Answers.{answerNumber}
 use Rattle.receiver.specs.declared.Receiver.{Receiver}
+use Rattle.saving.specs.Saving as saving
+use Rattle.saving.specs.Saving.{stateLength, saveOf, savedNumber}
 use Rattle.keys.specs.Sheet.{keyAt}
 use Rattle.keys.specs.Good.{GoodKey}
 use Rattle.keys.specs.Asked.{keyOf, keyNumberOf}
@@ -96,7 +98,7 @@ pub record RowSeven : Type 0 where
       ↔ (Opened sheet n s × BlocksRight s × NoneBefore (keyAt sheet n) s (groupsIn s)
       × LowestMissing (keyAt sheet n) s a)
 
--- 8: encoder: buffer too short; also a buffer for a group, from byte `at` on
+-- 8: encoder: buffer too short; also a buffer for a group, from byte `at` on, and one for a receiver's state
 pub record RowEight : Type 0 where
   pub encode : (sheet : List ℕ) (n room : ℕ)
       → (encoded sheet n room ≡ 8)
@@ -104,6 +106,8 @@ pub record RowEight : Type 0 where
   pub encode-same : BufferStays 8
   pub put-at : (out : List ℕ) (at : ℕ) → (putNumber (putAtOf out at) ≡ 8) ↔ (length out < at + groupSize)
   pub put-at-same : (words out : List ℕ) (at : ℕ) → putNumber (putAtOf out at) ≡ 8 → bufferOf words out at ≡ out
+  pub save : (out : List ℕ) → (savedNumber (saveOf out) ≡ 8) ↔ (length out < stateLength)
+  pub save-same : (r : Receiver) (out : List ℕ) → savedNumber (saveOf out) ≡ 8 → saving.bufferOf r out ≡ out
 
 -- 9: receiver: bit neither 0 nor 1. The bits of bytes are never refused
 pub record RowNine : Type 0 where

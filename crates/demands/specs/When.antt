@@ -1,6 +1,6 @@
 -- The column "When" of the table, for the rows whose words no crate below has: each condition by itself, in the row's
 -- own words. (Of row 2 it is `GoodKey` of keys denied; of row 10 `NoWords` and `NoDate` of clock.)
-use Prim.Native.Nat.{ℕ, _+_, _*_, _<_, _≤_}
+use Prim.Native.Nat.{ℕ, _+_, _*_, _<_}
 use mathlib.Core.Path.{_≡_}
 use mathlib.Core.List.{List}
 use mathlib.Core.Bool.{true, false}
