@@ -18,6 +18,7 @@ use Rattle.receiver.specs.declared.Step.{Step}
 use Rattle.receiver.proofs.Refusal.{refused-9, only-refused-9, refused-same}
 use Rattle.receiver.proofs.Feeds.{advance-number}
 use Rattle.saving.specs.Saving.{stateLength, saveOf, savedNumber, bufferOf}
+use Rattle.station.specs.Record.{heldClockOf}
 use Rattle.keys.specs.Sheet.{HasExercise, keyAt}
 use Rattle.keys.specs.Fields.{wantedOf}
 use Rattle.keys.specs.Good.{GoodKey}
@@ -28,10 +29,12 @@ use Rattle.encoder.specs.Encoding.{sizeOf}
 use Rattle.encoder.proofs.SizeLaws.{size-wanted, size-unwanted}
 use Rattle.encoder.proofs.AnswerLaws.{number-1, number-2, number-8}
 use Rattle.encoder.proofs.BufferLaws.{refused-same as encoder-same}
+use Rattle.marker.proofs.UnmarkedLaws.{unmarked}
 use Rattle.demands.specs.When as when
 use Rattle.demands.specs.When.{NoExercise, TooShort}
 use Rattle.demands.specs.Refusals.{encoded, BufferStays, RowOne, RowTwo, RowThree, RowFour, RowFive, RowSix}
-use Rattle.demands.specs.Refusals.{RowSeven, RowEight, RowNine, RowTen, RowEleven, RowTwelve, EveryRow}
+use Rattle.demands.specs.Refusals.{RowSeven, RowEight, RowNine, RowTen, RowEleven, RowTwelve, NotMarked}
+use Rattle.demands.specs.Refusals.{EveryRow}
 use Rattle.demands.proofs.Words.{no-exercise}
 use Rattle.demands.proofs.Marks.{exercise-there, place-0, one, two, three, four, five, six, seven}
 
@@ -162,7 +165,7 @@ row-nine =
 -- ---- 10 to 12
 
 pub row-ten : RowTen
-row-ten = record { write = write-10; local-date = date-10 }
+row-ten = record { write = write-10; local-date = date-10; record-date = λ station. date-10 (heldClockOf station) }
 
 pub row-eleven : RowEleven
 row-eleven = record { frequency = frequency-refused; code = code-refused }
@@ -173,6 +176,11 @@ row-twelve =
       read = λ n. (λ e. length-12 n (sym (read-number n) ∙ e), λ l. read-number n ∙ length-over n l);
       judge = λ n k. (λ e. length-12 n (sym (judge-number n k) ∙ e), λ l. judge-number n k ∙ length-over n l);
     }
+
+-- ---- what is not marked
+
+pub not-marked : NotMarked
+not-marked sheet n s t alike = unmarked s t alike sheet n
 
 pub every-row : EveryRow
 every-row =
@@ -189,4 +197,5 @@ every-row =
       ten = row-ten;
       eleven = row-eleven;
       twelve = row-twelve;
+      not-marked = not-marked;
     }

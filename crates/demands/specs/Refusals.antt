@@ -22,12 +22,15 @@ use Rattle.receiver.specs.Answers.{answerNumber}
 use Rattle.receiver.specs.declared.Receiver.{Receiver}
 use Rattle.saving.specs.Saving as saving
 use Rattle.saving.specs.Saving.{stateLength, saveOf, savedNumber}
+use Rattle.station.specs.Record.{heldClockOf}
+use Rattle.station.specs.declared.Record.{Record}
 use Rattle.keys.specs.Sheet.{keyAt}
 use Rattle.keys.specs.Good.{GoodKey}
 use Rattle.keys.specs.Asked.{keyOf, keyNumberOf}
 use Rattle.encoder.specs.Answer.{encodeOf, encodedNumber, outOf}
 use Rattle.marker.specs.Submission.{groupsIn}
 use Rattle.marker.specs.Rules.{BlocksRight}
+use Rattle.marker.specs.Unmarked.{Alike}
 use Rattle.marker.specs.Mark.{markOf}
 use Rattle.marker.specs.Verdict.{numberOf, placeOf}
 use Rattle.demands.specs.When.{NoExercise, WrongLength, Opened, FirstInvalid, HeaderWrong, ContentWrong}
@@ -117,11 +120,13 @@ pub record RowNine : Type 0 where
   pub advance : (r : Receiver) (s : List ℕ) (byte bit : ℕ) → answerNumber (advanceOf r s byte bit .answer) ≡ 9 → ⊥
 
 -- 10: clock field out of the ranges above, or PTY over 31 (writing); no clock held, or UTC or local day out of range
--- (date), also the date that a station record gives, which is that of the clock it holds
+-- (date), of any clock that is held and of the one that a station record holds
 pub record RowTen : Type 0 where
   pub write : (pi : ℕ) (tp : Bool) (pty : ℕ) (clock : Clock)
       → (numberOfWritten (writeOf pi tp pty clock) ≡ 10) ↔ NoWords pty clock
   pub local-date : (held : Held) → (numberOfLocal (localDateOf held) ≡ 10) ↔ NoDate held
+  pub record-date : (station : Record)
+      → (numberOfLocal (localDateOf (heldClockOf station)) ≡ 10) ↔ NoDate (heldClockOf station)
 
 -- 11: frequency asked for a code outside 1-204, or code for kHz that none has
 pub record RowEleven : Type 0 where
@@ -133,6 +138,10 @@ pub record RowEleven : Type 0 where
 pub record RowTwelve : Type 0 where
   pub read : (n : ℕ) → (foundNumber (readOf n) ≡ 12) ↔ (2 ^ 26 ≤ n)
   pub judge : (n : ℕ) (k : Kind) → (judgedNumber (judgeOf n k) ≡ 12) ↔ (2 ^ 26 ≤ n)
+
+-- TA, M/S, DI and AF are not marked: two submissions that are alike but for these are answered alike
+abbrev pub NotMarked : Type 0
+NotMarked = (sheet : List ℕ) (n : ℕ) (s t : List ℕ) → Alike s t → markOf sheet n s ≡ markOf sheet n t
 
 -- all of them
 pub record EveryRow : Type 0 where
@@ -148,3 +157,4 @@ pub record EveryRow : Type 0 where
   pub ten : RowTen
   pub eleven : RowEleven
   pub twelve : RowTwelve
+  pub not-marked : NotMarked
