@@ -1,5 +1,5 @@
--- No second answer: each promise says that the answer is equal to a definition at the arguments, and what was lent to
--- another. Two things that are equal to a third are equal.
+-- No second answer: nothing is asked, and each promise says that the answer is equal to a definition at the arguments,
+-- and what was lent to another. Two things that are equal to a third are equal.
 use mathlib.Core.Path.{_≡_, refl, sym, _∙_}
 use Rattle.demands.specs.OneAnswer.{Blocks, Groups, Fields, Bytes, Frequencies, Clock, Receiver, Saving}
 use Rattle.demands.specs.OneAnswer.{Station, Held, Keys, Encoder, Marker, Every}
@@ -10,136 +10,136 @@ equation-settles p q = p ∙ sym q
 blocks : Blocks
 blocks =
     record {
-      offset = λ κs a r r′ e e′ p q. equation-settles p q;
-      check = λ κs a r r′ e e′ p q. equation-settles p q;
-      write = λ κs a r r′ e e′ p q. equation-settles p q;
-      read = λ κs a r r′ e e′ p q. equation-settles (p .0) (q .0);
-      judge = λ κs a r r′ e e′ p q. equation-settles (p .0) (q .0);
+      offset = λ κs a. (tt, λ r r′ e e′ p q. equation-settles p q);
+      check = λ κs a. (tt, λ r r′ e e′ p q. equation-settles p q);
+      write = λ κs a. (tt, λ r r′ e e′ p q. equation-settles p q);
+      read = λ κs a. (tt, λ r r′ e e′ p q. equation-settles (p .0) (q .0));
+      judge = λ κs a. (tt, λ r r′ e e′ p q. equation-settles (p .0) (q .0));
     }
 
 groups : Groups
 groups =
     record {
-      empty = λ κs a r r′ e e′ p q. equation-settles p q;
-      with-block = λ κs a r r′ e e′ p q. equation-settles p q;
-      all-good = λ κs a r r′ e e′ p q. equation-settles p q;
-      word = λ κs a r r′ e e′ p q. equation-settles p q;
-      good = λ κs a r r′ e e′ p q. equation-settles p q;
-      is-all-good = λ κs a r r′ e e′ p q. equation-settles p q;
-      counts = λ κs a r r′ e e′ p q. equation-settles p q;
-      third-kind = λ κs a r r′ e e′ p q. equation-settles p q;
-      expected = λ κs a r r′ e e′ p q. equation-settles p q;
+      empty = λ κs a. (tt, λ r r′ e e′ p q. equation-settles p q);
+      with-block = λ κs a. (tt, λ r r′ e e′ p q. equation-settles p q);
+      all-good = λ κs a. (tt, λ r r′ e e′ p q. equation-settles p q);
+      word = λ κs a. (tt, λ r r′ e e′ p q. equation-settles p q);
+      good = λ κs a. (tt, λ r r′ e e′ p q. equation-settles p q);
+      is-all-good = λ κs a. (tt, λ r r′ e e′ p q. equation-settles p q);
+      counts = λ κs a. (tt, λ r r′ e e′ p q. equation-settles p q);
+      third-kind = λ κs a. (tt, λ r r′ e e′ p q. equation-settles p q);
+      expected = λ κs a. (tt, λ r r′ e e′ p q. equation-settles p q);
     }
 
 fields : Fields
 fields =
     record {
-      header-of = λ κs a r r′ e e′ p q. equation-settles p q;
-      header-from = λ κs a r r′ e e′ p q. equation-settles p q;
-      content-from = λ κs a r r′ e e′ p q. equation-settles p q;
-      content-of = λ κs a r r′ e e′ p q. equation-settles p q;
-      switches-of = λ κs a r r′ e e′ p q. equation-settles p q;
-      first = λ κs a r r′ e e′ p q. equation-settles p q;
-      second = λ κs a r r′ e e′ p q. equation-settles p q;
+      header-of = λ κs a. (tt, λ r r′ e e′ p q. equation-settles p q);
+      header-from = λ κs a. (tt, λ r r′ e e′ p q. equation-settles p q);
+      content-from = λ κs a. (tt, λ r r′ e e′ p q. equation-settles p q);
+      content-of = λ κs a. (tt, λ r r′ e e′ p q. equation-settles p q);
+      switches-of = λ κs a. (tt, λ r r′ e e′ p q. equation-settles p q);
+      first = λ κs a. (tt, λ r r′ e e′ p q. equation-settles p q);
+      second = λ κs a. (tt, λ r r′ e e′ p q. equation-settles p q);
     }
 
 bytes : Bytes
 bytes =
     record {
-      blocks-of = λ κs a r r′ e e′ p q. equation-settles p q;
-      bytes-of = λ κs a r r′ e e′ p q. equation-settles p q;
-      put-at = λ κs a r r′ e e′ p q. (equation-settles (p .0) (q .0), equation-settles (p .2) (q .2));
-      block-at = λ κs a r r′ e e′ p q. equation-settles p q;
-      word-at = λ κs a r r′ e e′ p q. equation-settles p q;
-      group-of = λ κs a r r′ e e′ p q. equation-settles p q;
+      blocks-of = λ κs a. (tt, λ r r′ e e′ p q. equation-settles p q);
+      bytes-of = λ κs a. (tt, λ r r′ e e′ p q. equation-settles p q);
+      put-at = λ κs a. (tt, λ r r′ e e′ p q. (equation-settles (p .0) (q .0), equation-settles (p .2) (q .2)));
+      block-at = λ κs a. (tt, λ r r′ e e′ p q. equation-settles p q);
+      word-at = λ κs a. (tt, λ r r′ e e′ p q. equation-settles p q);
+      group-of = λ κs a. (tt, λ r r′ e e′ p q. equation-settles p q);
     }
 
 frequencies : Frequencies
 frequencies =
     record {
-      frequency = λ κs a r r′ e e′ p q. equation-settles (p .0) (q .0);
-      code = λ κs a r r′ e e′ p q. equation-settles (p .0) (q .0);
-      empty = λ κs a r r′ e e′ p q. equation-settles p q;
-      taken = λ κs a r r′ e e′ p q. equation-settles p q;
-      held = λ κs a r r′ e e′ p q. equation-settles p q;
-      expected = λ κs a r r′ e e′ p q. equation-settles p q;
-      at = λ κs a r r′ e e′ p q. equation-settles p q;
+      frequency = λ κs a. (tt, λ r r′ e e′ p q. equation-settles (p .0) (q .0));
+      code = λ κs a. (tt, λ r r′ e e′ p q. equation-settles (p .0) (q .0));
+      empty = λ κs a. (tt, λ r r′ e e′ p q. equation-settles p q);
+      taken = λ κs a. (tt, λ r r′ e e′ p q. equation-settles p q);
+      held = λ κs a. (tt, λ r r′ e e′ p q. equation-settles p q);
+      expected = λ κs a. (tt, λ r r′ e e′ p q. equation-settles p q);
+      at = λ κs a. (tt, λ r r′ e e′ p q. equation-settles p q);
     }
 
 clock : Clock
 clock =
     record {
-      read = λ κs a r r′ e e′ p q. equation-settles (p .0) (q .0);
-      write = λ κs a r r′ e e′ p q. equation-settles (p .0) (q .0);
-      local-date = λ κs a r r′ e e′ p q. equation-settles (p .0) (q .0);
+      read = λ κs a. (tt, λ r r′ e e′ p q. equation-settles (p .0) (q .0));
+      write = λ κs a. (tt, λ r r′ e e′ p q. equation-settles (p .0) (q .0));
+      local-date = λ κs a. (tt, λ r r′ e e′ p q. equation-settles (p .0) (q .0));
     }
 
 receiver : Receiver
 receiver =
     record {
-      new = λ κs a r r′ e e′ p q. equation-settles p q;
-      step = λ κs a r r′ e e′ p q. equation-settles (p .0) (q .0);
-      advance = λ κs a r r′ e e′ p q. equation-settles (p .0) (q .0);
+      new = λ κs a. (tt, λ r r′ e e′ p q. equation-settles p q);
+      step = λ κs a. (tt, λ r r′ e e′ p q. equation-settles (p .0) (q .0));
+      advance = λ κs a. (tt, λ r r′ e e′ p q. equation-settles (p .0) (q .0));
     }
 
 saving : Saving
 saving =
     record {
-      save = λ κs a r r′ e e′ p q. (equation-settles (p .0) (q .0), equation-settles (p .2) (q .2));
-      restore = λ κs a r r′ e e′ p q. equation-settles p q;
+      save = λ κs a. (tt, λ r r′ e e′ p q. (equation-settles (p .0) (q .0), equation-settles (p .2) (q .2)));
+      restore = λ κs a. (tt, λ r r′ e e′ p q. equation-settles p q);
     }
 
 station : Station
 station =
     record {
-      fresh = λ κs a r r′ e e′ p q. equation-settles p q;
-      updated = λ κs a r r′ e e′ p q. equation-settles p q;
-      take-in = λ κs a r r′ e e′ p q. (refl, equation-settles p q);
-      taken = λ κs a r r′ e e′ p q. equation-settles p q;
+      fresh = λ κs a. (tt, λ r r′ e e′ p q. equation-settles p q);
+      updated = λ κs a. (tt, λ r r′ e e′ p q. equation-settles p q);
+      take-in = λ κs a. (tt, λ r r′ e e′ p q. (refl, equation-settles p q));
+      taken = λ κs a. (tt, λ r r′ e e′ p q. equation-settles p q);
     }
 
 held : Held
 held =
     record {
-      pi = λ κs a r r′ e e′ p q. equation-settles (p .0) (q .0);
-      pty = λ κs a r r′ e e′ p q. equation-settles p q;
-      tp = λ κs a r r′ e e′ p q. equation-settles p q;
-      name-characters = λ κs a r r′ e e′ p q. equation-settles p q;
-      name-seen = λ κs a r r′ e e′ p q. equation-settles p q;
-      text-characters = λ κs a r r′ e e′ p q. equation-settles p q;
-      text-seen = λ κs a r r′ e e′ p q. equation-settles p q;
-      text-flag = λ κs a r r′ e e′ p q. equation-settles (p .0) (q .0);
-      af-list = λ κs a r r′ e e′ p q. equation-settles p q;
-      held-clock = λ κs a r r′ e e′ p q. equation-settles (p .0) (q .0);
-      local-date = λ κs a r r′ e e′ p q. equation-settles (p .0) (q .0);
+      pi = λ κs a. (tt, λ r r′ e e′ p q. equation-settles (p .0) (q .0));
+      pty = λ κs a. (tt, λ r r′ e e′ p q. equation-settles p q);
+      tp = λ κs a. (tt, λ r r′ e e′ p q. equation-settles p q);
+      name-characters = λ κs a. (tt, λ r r′ e e′ p q. equation-settles p q);
+      name-seen = λ κs a. (tt, λ r r′ e e′ p q. equation-settles p q);
+      text-characters = λ κs a. (tt, λ r r′ e e′ p q. equation-settles p q);
+      text-seen = λ κs a. (tt, λ r r′ e e′ p q. equation-settles p q);
+      text-flag = λ κs a. (tt, λ r r′ e e′ p q. equation-settles (p .0) (q .0));
+      af-list = λ κs a. (tt, λ r r′ e e′ p q. equation-settles p q);
+      held-clock = λ κs a. (tt, λ r r′ e e′ p q. equation-settles (p .0) (q .0));
+      local-date = λ κs a. (tt, λ r r′ e e′ p q. equation-settles (p .0) (q .0));
     }
 
 keys : Keys
 keys =
     record {
-      key-of = λ κs a r r′ e e′ p q. equation-settles (p .0) (q .0);
-      pi = λ κs a r r′ e e′ p q. equation-settles p q;
-      pty = λ κs a r r′ e e′ p q. equation-settles p q;
-      tp = λ κs a r r′ e e′ p q. equation-settles p q;
-      wanted = λ κs a r r′ e e′ p q. equation-settles p q;
-      name-pair = λ κs a r r′ e e′ p q. equation-settles p q;
-      text-pair = λ κs a r r′ e e′ p q. equation-settles p q;
-      addresses = λ κs a r r′ e e′ p q. equation-settles p q;
-      text-length = λ κs a r r′ e e′ p q. equation-settles p q;
+      key-of = λ κs a. (tt, λ r r′ e e′ p q. equation-settles (p .0) (q .0));
+      pi = λ κs a. (tt, λ r r′ e e′ p q. equation-settles p q);
+      pty = λ κs a. (tt, λ r r′ e e′ p q. equation-settles p q);
+      tp = λ κs a. (tt, λ r r′ e e′ p q. equation-settles p q);
+      wanted = λ κs a. (tt, λ r r′ e e′ p q. equation-settles p q);
+      name-pair = λ κs a. (tt, λ r r′ e e′ p q. equation-settles p q);
+      text-pair = λ κs a. (tt, λ r r′ e e′ p q. equation-settles p q);
+      addresses = λ κs a. (tt, λ r r′ e e′ p q. equation-settles p q);
+      text-length = λ κs a. (tt, λ r r′ e e′ p q. equation-settles p q);
     }
 
 encoder : Encoder
 encoder =
     record {
-      encode = λ κs a r r′ e e′ p q. (equation-settles (p .0) (q .0), equation-settles (p .3) (q .3));
+      encode = λ κs a. (tt, λ r r′ e e′ p q. (equation-settles (p .0) (q .0), equation-settles (p .3) (q .3)));
     }
 
 marker : Marker
 marker =
     record {
-      mark = λ κs a r r′ e e′ p q. equation-settles (p .0) (q .0);
-      number = λ κs a r r′ e e′ p q. equation-settles p q;
-      place = λ κs a r r′ e e′ p q. equation-settles p q;
+      mark = λ κs a. (tt, λ r r′ e e′ p q. equation-settles (p .0) (q .0));
+      number = λ κs a. (tt, λ r r′ e e′ p q. equation-settles p q);
+      place = λ κs a. (tt, λ r r′ e e′ p q. equation-settles p q);
     }
 
 pub no-second-answer : Every
