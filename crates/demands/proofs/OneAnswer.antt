@@ -1,8 +1,16 @@
 -- No second answer: nothing is asked, and each promise says that the answer is equal to a definition at the arguments,
 -- and what was lent to another. Two things that are equal to a third are equal.
+use Prim.Native.Nat.{ℕ, zero, suc, _/_, _%_, _^_, _<_}
 use mathlib.Core.Path.{_≡_, refl, sym, _∙_}
+use mathlib.Core.Bool.{Bool, true, false}
+use native.Mathlib.Numerals.{one-add}
+use native.Mathlib.Omega.{arith}
+use lib.Dec.{eqb}
+use lib.Pow.{mod-pow-add}
+use borrow.Author.Tests.{eqb-true, eqb-false}
+use Rattle.marker.specs.Steps.{has}
 use Rattle.demands.specs.OneAnswer.{Blocks, Groups, Fields, Bytes, Frequencies, Clock, Receiver, Saving}
-use Rattle.demands.specs.OneAnswer.{Station, Held, Keys, Encoder, Marker, Every}
+use Rattle.demands.specs.OneAnswer.{Station, Held, Keys, Encoder, Marker, OneMask, Every}
 
 equation-settles : {A : Type 0} {x y z : A} → x ≡ z → y ≡ z → x ≡ y
 equation-settles p q = p ∙ sym q
@@ -142,6 +150,37 @@ marker =
       place = λ κs a. (tt, λ r r′ e e′ p q. equation-settles p q);
     }
 
+-- ---- masks
+
+module _ (mask mask′ : ℕ) where
+  -- two bits of which the same is said are equal
+  bit-same : (a : ℕ) → has mask a ≡ has mask′ a → mask / 2 ^ a % 2 ≡ mask′ / 2 ^ a % 2
+  unfolding has
+  bit-same a e = told (eqb (mask / 2 ^ a % 2) 1) refl
+    where
+      told : (b : Bool) → eqb (mask / 2 ^ a % 2) 1 ≡ b → mask / 2 ^ a % 2 ≡ mask′ / 2 ^ a % 2
+      told true t =
+          eqb-true (mask / 2 ^ a % 2) 1 t ∙ sym (eqb-true (mask′ / 2 ^ a % 2) 1 (sym e ∙ t))
+      told false f =
+          let no = eqb-false (mask / 2 ^ a % 2) 1 f in
+          let no′ = eqb-false (mask′ / 2 ^ a % 2) 1 (sym e ∙ f) in
+          omega (arith, no, no′)
+
+  -- so are the lowest k bits as a number, bit by bit
+  low-same : (k : ℕ) → ((a : ℕ) → a < k → has mask a ≡ has mask′ a) → mask % 2 ^ k ≡ mask′ % 2 ^ k
+  low-same zero same = omega arith
+  low-same (suc k) same =
+      rw (
+        ← one-add k,
+        mod-pow-add mask 1 k,
+        mod-pow-add mask′ 1 k,
+        bit-same k (same k (omega arith)),
+        low-same k (λ a l. same a (omega arith)),
+      )
+
+one-mask : OneMask
+one-mask mask mask′ l l′ same = omega (arith, low-same mask mask′ 32 same)
+
 pub no-second-answer : Every
 no-second-answer =
     record {
@@ -158,4 +197,5 @@ no-second-answer =
       keys = keys;
       encoder = encoder;
       marker = marker;
+      seen-after = one-mask;
     }

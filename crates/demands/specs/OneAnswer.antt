@@ -2,6 +2,7 @@
 -- and where something is lent, so is the whole of it at the two exits. What is asked and promised is the function's own
 -- contract, as a caller meets and learns it (`Asked` and `Learnt`, which are made from the `requires` and `ensures` in
 -- src/); nothing of it is written again here.
+use Prim.Native.Nat.{ℕ, _^_, _<_}
 use mathlib.Core.Path.{_≡_, refl}
 use contract.Lifetimes.{Lfts}
 use denote.Ref.{now}
@@ -22,6 +23,7 @@ use Rattle.station.proofs as station
 use Rattle.station.proofs.read as held
 use Rattle.keys.proofs as keys
 use Rattle.encoder.proofs as encoder
+use Rattle.marker.specs.Steps.{maskBits, has}
 use Rattle.marker.proofs as marker
 
 -- ---- what is claimed of a function
@@ -195,6 +197,13 @@ pub record Marker : Type 0 where
   pub number : OneAnswer marker.number.ended marker.number.Reads.Asked marker.number.Reads.Learnt
   pub place : OneAnswer marker.place.ended marker.place.Reads.Asked marker.place.Reads.Learnt
 
+-- `seen_after` is known inside the marker only, and its promise is no equation: of each of the 32 bits of the mask that
+-- it answers it says whether it is set. Two masks of 32 bits that agree in each are equal.
+abbrev pub OneMask : Type 0
+OneMask =
+    (mask mask′ : ℕ) → mask < 2 ^ maskBits → mask′ < 2 ^ maskBits
+    → ((a : ℕ) → a < maskBits → has mask a ≡ has mask′ a) → mask ≡ mask′
+
 -- all of them
 pub record Every : Type 0 where
   pub blocks : Blocks
@@ -210,3 +219,4 @@ pub record Every : Type 0 where
   pub keys : Keys
   pub encoder : Encoder
   pub marker : Marker
+  pub seen-after : OneMask
