@@ -10,7 +10,7 @@ use lib.Pow.{mod-pow-add}
 use borrow.Author.Tests.{eqb-true, eqb-false}
 use Rattle.marker.specs.Steps.{has}
 use Rattle.demands.specs.OneAnswer.{Blocks, Groups, Fields, Bytes, Frequencies, Clock, Receiver, Saving}
-use Rattle.demands.specs.OneAnswer.{Station, Held, Keys, Encoder, Marker, OneMask, Every}
+use Rattle.demands.specs.OneAnswer.{Station, Held, Keys, Encoder, Marker, OneMask, NoSecondAnswer}
 
 equation-settles : {A : Type 0} {x y z : A} → x ≡ z → y ≡ z → x ≡ y
 equation-settles p q = p ∙ sym q
@@ -181,7 +181,7 @@ module _ (mask mask′ : ℕ) where
 one-mask : OneMask
 one-mask mask mask′ l l′ same = omega (arith, low-same mask mask′ 32 same)
 
-pub no-second-answer : Every
+pub no-second-answer : NoSecondAnswer
 no-second-answer =
     record {
       blocks = blocks;

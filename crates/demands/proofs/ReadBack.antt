@@ -19,7 +19,7 @@ use Rattle.saving.proofs.SavedBack.{restore-buffer}
 use Rattle.history.proofs.Agrees.{receiver-agrees}
 use Rattle.station.proofs.Agreement.{record-agrees}
 use Rattle.demands.specs.ReadBack.{Word, BlocksBack, FourBlocksBack, BytesBack, ClockBack, FrequenciesBack}
-use Rattle.demands.specs.ReadBack.{ReceiverAgrees, StateBack, RecordAgrees, Everything}
+use Rattle.demands.specs.ReadBack.{ReceiverAgrees, StateBack, RecordAgrees, Demand2}
 
 pub blocks-back : BlocksBack
 blocks-back =
@@ -118,8 +118,8 @@ state-back = record { restore-save = restore-buffer }
 pub record-says : RecordAgrees
 record-says = record { record-after = record-agrees }
 
-pub everything : Everything
-everything =
+pub demand-2 : Demand2
+demand-2 =
     record {
       blocks = blocks-back;
       four-blocks = four-blocks-back;

@@ -34,7 +34,7 @@ use Rattle.demands.specs.When as when
 use Rattle.demands.specs.When.{NoExercise, TooShort}
 use Rattle.demands.specs.Refusals.{encoded, BufferStays, RowOne, RowTwo, RowThree, RowFour, RowFive, RowSix}
 use Rattle.demands.specs.Refusals.{RowSeven, RowEight, RowNine, RowTen, RowEleven, RowTwelve, NotMarked}
-use Rattle.demands.specs.Refusals.{EveryRow}
+use Rattle.demands.specs.Refusals.{Demand1}
 use Rattle.demands.proofs.Words.{no-exercise}
 use Rattle.demands.proofs.Marks.{exercise-there, place-0, one, two, three, four, five, six, seven}
 
@@ -182,8 +182,8 @@ row-twelve =
 pub not-marked : NotMarked
 not-marked sheet n s t alike = unmarked s t alike sheet n
 
-pub every-row : EveryRow
-every-row =
+pub demand-1 : Demand1
+demand-1 =
     record {
       one = row-one;
       two = row-two;

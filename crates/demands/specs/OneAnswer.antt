@@ -205,7 +205,7 @@ OneMask =
     → ((a : ℕ) → a < maskBits → has mask a ≡ has mask′ a) → mask ≡ mask′
 
 -- all of them
-pub record Every : Type 0 where
+pub record NoSecondAnswer : Type 0 where
   pub blocks : Blocks
   pub groups : Groups
   pub fields : Fields

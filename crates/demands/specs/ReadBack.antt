@@ -110,9 +110,8 @@ pub record StateBack : Type 0 where
 pub record RecordAgrees : Type 0 where
   pub record-after : (groups : List Group) → updatedAll station.freshOf groups ≡ recordAfter groups
 
--- ---- all of them
-
-pub record Everything : Type 0 where
+-- the second demand: all of them
+pub record Demand2 : Type 0 where
   pub blocks : BlocksBack
   pub four-blocks : FourBlocksBack
   pub bytes : BytesBack

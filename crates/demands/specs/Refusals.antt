@@ -143,8 +143,8 @@ pub record RowTwelve : Type 0 where
 abbrev pub NotMarked : Type 0
 NotMarked = (sheet : List ℕ) (n : ℕ) (s t : List ℕ) → Alike s t → markOf sheet n s ≡ markOf sheet n t
 
--- all of them
-pub record EveryRow : Type 0 where
+-- the first demand: all of them
+pub record Demand1 : Type 0 where
   pub one : RowOne
   pub two : RowTwo
   pub three : RowThree
