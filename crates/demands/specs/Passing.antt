@@ -1,6 +1,6 @@
 -- The third demand: what a passed submission is worth. Four claims, over what the functions promise: `mark` answers
--- `markOf`; `encode` answers `encodeOf` and leaves `outOf` in its buffer; a receiver's `step` is `stepOf`; a group taken
--- into the record makes it `updatedOf`. `Bytes sheet` says that each is below 256, as those of a slice of bytes are.
+-- `markOf`; `encode` answers `encodeOf` and leaves `outOf` in its buffer; a receiver's `step` is `stepOf`; a group that is
+-- taken into the record makes it `updatedOf`. `Bytes sheet` says that each is below 256, as in a slice of bytes.
 use Prim.Native.Nat.{ℕ, _+_, _*_, _/_, _≤_, _<_}
 use mathlib.Core.Path.{_≡_}
 use mathlib.Core.Logic.{_↔_}
