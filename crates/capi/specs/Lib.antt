@@ -4,3 +4,4 @@ pub mod Groups
 pub mod Times
 pub mod Frequencies
 pub mod Marking
+pub mod Stations

@@ -67,7 +67,7 @@ pub(crate) fn list_code(list: AfList, asked: usize) -> u32
 }
 
 // Two bytes as a word, high first.
-fn word_of(high: u8, low: u8) -> u16
+pub(crate) fn word_of(high: u8, low: u8) -> u16
     ensures { λ r. ⌜ r ≡ high * 256 + low ⌝ }
 {
     (high as u16) * 256 + (low as u16)

@@ -4,4 +4,5 @@ mod af;
 mod block;
 mod group;
 mod marking;
+mod stations;
 mod times;
