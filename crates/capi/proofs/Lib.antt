@@ -1,2 +1,3 @@
 -- The laws of the crate `capi`.
 pub mod Buffers
+pub mod Rooms

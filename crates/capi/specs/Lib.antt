@@ -4,4 +4,5 @@ pub mod Groups
 pub mod Times
 pub mod Frequencies
 pub mod Marking
+pub mod Hearing
 pub mod Stations

@@ -18,7 +18,14 @@ const TOO_SHORT: u8 = 8;
 
 // Four words as thirteen bytes into a buffer, from byte `at` on.
 #[no_mangle]
-pub extern "C" fn bench_put_group(word1: u16, word2: u16, word3: u16, word4: u16, out: &mut [u8], at: usize) -> u8
+pub extern "C" fn bench_put_group(
+    word1: u16,
+    word2: u16,
+    word3: u16,
+    word4: u16,
+    out: &mut [u8],
+    at: usize,
+) -> u8
     ensures { λ r. ⌜ (r ≡ putNumber (putAtOf (now (out .entry)) at))
         × (now (out .exit) ≡ bufferOf (word1 ∷ word2 ∷ word3 ∷ word4 ∷ []) (now (out .entry)) at) ⌝ }
 {
@@ -64,7 +71,10 @@ fn carried_code(carried: Carried) -> u8
     ensures { λ r. ⌜ r ≡ carriedCode carried ⌝ }
 {
     match carried {
-        Carried::Carries(switches) => 8 + 4 * bit(switches.ta) + 2 * bit(switches.ms) + bit(switches.di),
+        Carried::Carries(switches) => 8
+            + 4 * bit(switches.ta)
+            + 2 * bit(switches.ms)
+            + bit(switches.di),
         Carried::CarriesNone => 0,
     }
 }

@@ -3,6 +3,7 @@
 mod af;
 mod block;
 mod group;
+mod hearing;
 mod marking;
 mod stations;
 mod times;

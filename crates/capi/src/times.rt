@@ -46,7 +46,14 @@ pub extern "C" fn bench_write_clock(
 
 // The local date and time of a clock, where one is held.
 #[no_mangle]
-pub extern "C" fn bench_local_date(held: bool, day: u32, hour: u8, minute: u8, negative: bool, half: u8) -> u64
+pub extern "C" fn bench_local_date(
+    held: bool,
+    day: u32,
+    hour: u8,
+    minute: u8,
+    negative: bool,
+    half: u8,
+) -> u64
     ensures { λ r. ⌜ r ≡ localCode (localDateOf (heldOf held (clockOf day hour minute negative half))) ⌝ }
 {
     local_code(clock::local_date(held_of(held, clock_of(day, hour, minute, negative, half))))
@@ -116,7 +123,8 @@ pub(crate) fn local_code(local: Local) -> u64
 {
     match local {
         Local::Date(at) => {
-            DATE + (at.year as u64) * 0x10000000000
+            DATE
+                + (at.year as u64) * 0x10000000000
                 + (at.month as u64) * 0x100000000
                 + (at.day as u64) * 0x1000000
                 + (at.weekday as u64) * 0x10000

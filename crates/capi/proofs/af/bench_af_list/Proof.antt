@@ -17,7 +17,7 @@ list-code-requires : tie.Need-list-code-requires
 list-code-requires c κs = search needs
 
 returns : tie.Need-returns
-returns c = 
+returns c =
     let asked = c .before .before .before .args .asked in
     c .list-code .ensures ∙ ap (λ (l : AfList). listCode l asked) (c .before .list-of .ensures)
 

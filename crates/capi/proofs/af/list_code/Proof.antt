@@ -35,7 +35,7 @@ returns-2 : tie.Need-returns-2
 returns-2 c = c .held .ensures ∙ rw (c .before .match .keys2)
 
 returns-3 : tie.Need-returns-3
-returns-3 c = 
+returns-3 c =
     let n = c .before .before .args .asked in
     let w = c .before .match .rest in
     c .at .ensures ∙ rw (ne-eqb n 0 (w .0 .1), ne-eqb n 1 (w .1))

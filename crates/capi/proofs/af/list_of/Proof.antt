@@ -56,7 +56,7 @@ loop-less c = search needs
 
 loop-again : tie.Need-loop-again Inv-loop μ-loop
 unfolding listAfter
-loop-again c = 
+loop-again c =
     let l = c .before .before .before .before .before .loop in (
       search needs,
       c .taken .ensures ∙ rw (add-one (l .i), c .before .word-of .ensures, l .inv .1),
@@ -65,7 +65,7 @@ loop-again c =
 
 returns : tie.Need-returns Inv-loop μ-loop
 unfolding listIn
-returns c = 
+returns c =
     let l = c .before .loop in
     let e : l .i ≡ length (c .before .before .before .before .args .bytes .now) / 2 = omega (arith, l .inv .2) in
     l .inv .1 ∙ rw e

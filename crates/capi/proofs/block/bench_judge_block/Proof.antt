@@ -21,7 +21,7 @@ judged-code-requires : tie.Need-judged-code-requires
 judged-code-requires c κs = search needs
 
 returns : tie.Need-returns
-returns c = 
+returns c =
     let bits = c .before .before .before .args .bits in
     c .judged-code .ensures ∙ ap judgedCode (c .before .judge .ensures .0 ∙ ap (judgeOf bits) (c .before .before .kind-numbered .ensures))
 

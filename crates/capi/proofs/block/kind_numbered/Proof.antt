@@ -18,7 +18,7 @@ returns-4 : tie.Need-returns-4
 returns-4 c = rw (c .match .keys4)
 
 returns-5 : tie.Need-returns-5
-returns-5 c = 
+returns-5 c =
     let n = c .before .args .number in
     let w = c .match .rest in
     rw (ne-eqb n 1 (w .0 .0 .0 .1), ne-eqb n 2 (w .0 .0 .1), ne-eqb n 3 (w .0 .1), ne-eqb n 4 (w .1))

@@ -17,7 +17,7 @@ word-code-requires : tie.Need-word-code-requires
 word-code-requires c κs = search needs
 
 returns : tie.Need-returns
-returns c = 
+returns c =
     c .word-code .ensures ∙ ap (λ (g : Group). wordCode g (c .before .before .before .args .place)) (c .before .group-of .ensures)
 
 pub bench-read-word-spec : {M : Type 1} → statement M

@@ -24,7 +24,7 @@ carried-code-requires c κs = search needs
 
 returns : tie.Need-returns
 unfolding wordOf
-returns c = 
+returns c =
     let one = c .before .before .all-good .ensures in
     c .carried-code .ensures ∙ ap carriedCode (c .before .switches-of .ensures ∙ ap (λ (g : Group). carriedOf (wordOf g 1)) one)
 

@@ -37,7 +37,7 @@ enum-told : tie.Need-enum-told
 enum-told c = search needs
 
 returns : tie.Need-returns
-returns c = 
+returns c =
     rw (c .before .before .before .before .carried .given .1, c .before .before .bit .ensures .0, c .before .bit2 .ensures .0, c .bit3 .ensures .0)
 
 returns-2 : tie.Need-returns-2

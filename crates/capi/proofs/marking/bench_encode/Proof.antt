@@ -19,7 +19,7 @@ same-length : tie.Need-same-length
 same-length c = search needs
 
 returns : tie.Need-returns
-returns c = 
+returns c =
     let done = c .before .before .before .encode .ensures in
     (c .encoded-code .ensures ∙ ap encodedCode (done .0), done .3)
 

@@ -15,7 +15,7 @@ use Rattle.capi.proofs.stations.record_of.Reads as record-of-reads
 
 returns : tie.Need-returns
 unfolding recordBuffer
-returns c = 
+returns c =
     let short = lt-ltb (length (c .before .before .before .args .out .now)) recordSize (omega arith) in
     (rw short, rw short)
 
@@ -29,7 +29,7 @@ same-length : tie.Need-same-length
 same-length c = search needs
 
 returns-2 : tie.Need-returns-2
-returns-2 c = 
+returns-2 c =
     let out = c .before .before .before .before .before .before .before .before .args .out .now in (
       rw (le-ltb (length out) recordSize (omega arith)),
       c .before .before .put-record .ensures ∙ ap (λ (r : Record). recordBuffer r out) (c .before .before .before .before .record-of .ensures),

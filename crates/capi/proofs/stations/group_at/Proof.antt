@@ -66,12 +66,22 @@ with-block-requires-4 c κs = search needs
 
 returns : tie.Need-returns
 unfolding groupAt
-returns c = 
-    rw (c .with-block4 .ensures, c .before .judged4 .ensures, c .before .before .pair-at4 .ensures,
-    c .before .before .before .with-block3 .ensures, c .before .before .before .before .judged3 .ensures, c .before .before .before .before .before .pair-at3 .ensures,
-    c .before .before .before .before .before .before .with-block2 .ensures, c .before .before .before .before .before .before .before .judged2 .ensures, c .before .before .before .before .before .before .before .before .pair-at2 .ensures,
-    c .before .before .before .before .before .before .before .before .before .with-block .ensures, c .before .before .before .before .before .before .before .before .before .before .judged .ensures, c .before .before .before .before .before .before .before .before .before .before .before .pair-at .ensures,
-    c .before .before .before .before .before .before .before .before .before .before .before .before .empty .ensures)
+returns c =
+    rw (
+      c .with-block4 .ensures,
+      c .before .judged4 .ensures,
+      c .before .before .pair-at4 .ensures,
+      c .before .before .before .with-block3 .ensures,
+      c .before .before .before .before .judged3 .ensures,
+      c .before .before .before .before .before .pair-at3 .ensures,
+      c .before .before .before .before .before .before .with-block2 .ensures,
+      c .before .before .before .before .before .before .before .judged2 .ensures,
+      c .before .before .before .before .before .before .before .before .pair-at2 .ensures,
+      c .before .before .before .before .before .before .before .before .before .with-block .ensures,
+      c .before .before .before .before .before .before .before .before .before .before .judged .ensures,
+      c .before .before .before .before .before .before .before .before .before .before .before .pair-at .ensures,
+      c .before .before .before .before .before .before .before .before .before .before .before .before .empty .ensures,
+    )
 
 pub group-at-spec : {M : Type 1} → statement M
 group-at-spec =

@@ -70,11 +70,17 @@ returns-5 : tie.Need-returns-5
 returns-5 c = c .held-code .ensures ∙ rw (c .before .before .match .keys5, c .before .held-clock .ensures .0)
 
 returns-6 : tie.Need-returns-6
-returns-6 c = 
+returns-6 c =
     let n = c .before .before .before .args .n in
     let w = c .before .before .match .rest in
-    c .local-code .ensures ∙ rw (ne-eqb n 0 (w .0 .0 .0 .0 .1), ne-eqb n 1 (w .0 .0 .0 .1), ne-eqb n 2 (w .0 .0 .1),
-    ne-eqb n 3 (w .0 .1), ne-eqb n 4 (w .1), c .before .local-date .ensures .0)
+    c .local-code .ensures ∙ rw (
+      ne-eqb n 0 (w .0 .0 .0 .0 .1),
+      ne-eqb n 1 (w .0 .0 .0 .1),
+      ne-eqb n 2 (w .0 .0 .1),
+      ne-eqb n 3 (w .0 .1),
+      ne-eqb n 4 (w .1),
+      c .before .local-date .ensures .0,
+    )
 
 pub head-spec : {M : Type 1} → statement M
 head-spec =

@@ -26,7 +26,7 @@ name-number-requires c κs = search needs
 
 returns-2 : tie.Need-returns-2
 unfolding numberOf
-returns-2 c = 
+returns-2 c =
     let n = c .before .before .before .args .n in
     c .name-number .ensures ∙ rw (le-ltb n 6 (omega arith), lt-ltb n 18 (omega arith))
 
@@ -35,7 +35,7 @@ text-number-requires c κs = search needs
 
 returns-3 : tie.Need-returns-3
 unfolding numberOf
-returns-3 c = 
+returns-3 c =
     let n = c .before .before .before .before .args .n in
     c .text-number .ensures ∙ rw (le-ltb n 6 (omega arith), le-ltb n 18 (omega arith), lt-ltb n 114 (omega arith))
 
@@ -50,7 +50,7 @@ cast-result c = search needs
 
 returns-4 : tie.Need-returns-4
 unfolding numberOf
-returns-4 c = 
+returns-4 c =
     let n = c .before .before .before .before .before .args .n in
     c .list-code .ensures ∙ rw (le-ltb n 6 (omega arith), le-ltb n 18 (omega arith), le-ltb n 114 (omega arith), c .before .af-list .ensures)
 

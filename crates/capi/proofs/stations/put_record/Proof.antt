@@ -40,7 +40,7 @@ loop-less c = search needs
 
 loop-again : tie.Need-loop-again Inv-loop μ-loop
 unfolding bytesTo
-loop-again c = 
+loop-again c =
     let l = c .before .before .loop in
     let start = c .before .before .before .before .args in (
       search needs,
@@ -55,7 +55,7 @@ same-length c = c .before .loop .inv .2
 
 returns : tie.Need-returns Inv-loop μ-loop
 unfolding recordBuffer
-returns c = 
+returns c =
     let l = c .before .loop in
     let out = c .before .before .before .args .out .now in
     let e : l .i ≡ recordSize = omega arith in

@@ -45,7 +45,7 @@ loop-less c = search needs
 
 loop-again : tie.Need-loop-again Inv-loop μ-loop
 unfolding recordAfter
-loop-again c = 
+loop-again c =
     let l = c .before .before .before .loop in (
       search needs,
       c .taken .ensures ∙ rw (add-one (l .i), c .before .group-at .ensures, l .inv .1),
@@ -54,7 +54,7 @@ loop-again c =
 
 returns : tie.Need-returns Inv-loop μ-loop
 unfolding recordIn
-returns c = 
+returns c =
     let l = c .before .loop in
     let e : l .i ≡ length (c .before .before .before .before .args .bytes .now) / 9 = omega (arith, l .inv .2) in
     l .inv .1 ∙ rw e

@@ -25,7 +25,7 @@ local-code-requires : tie.Need-local-code-requires
 local-code-requires c κs = search needs
 
 returns : tie.Need-returns
-returns c = 
+returns c =
     let held = c .before .before .before .before .args .held in
     c .local-code .ensures ∙ ap localCode (c .before .local-date .ensures .0
     ∙ ap localDateOf (c .before .before .held-of .ensures ∙ ap (heldOf held) (c .before .before .before .clock-of .ensures)))

@@ -21,7 +21,7 @@ written-code-requires : tie.Need-written-code-requires
 written-code-requires c κs = search needs
 
 returns : tie.Need-returns
-returns c = 
+returns c =
     let args = c .before .before .before .args in
     c .written-code .ensures ∙ ap writtenCode (c .before .write .ensures .0
     ∙ ap (writeOf (args .pi) (args .tp) (args .pty)) (c .before .before .clock-of .ensures))
