@@ -6,41 +6,13 @@
 
 #[allow(dead_code)]
 mod second;
-mod receiver_cases {
-    pub mod build;
-    pub mod hunts;
-    pub mod locks;
-    pub mod runs;
-    pub mod slips;
-}
+#[path = "receiver_cases/all.rs"]
+mod receiver_cases;
 
 use receiver_cases::build::Stream;
 use second::bits::bytes_of_bits;
 use second::groups::Group;
 use second::receiver::{answers, Answer};
-
-/// All streams, one set after the other.
-fn all_streams() -> Vec<Stream> {
-    let sets = [
-        // No bits, too few, each pair of kinds, and clean groups from each block on.
-        receiver_cases::locks::short(),
-        receiver_cases::locks::pairs(),
-        receiver_cases::locks::clean(),
-        receiver_cases::locks::late(),
-        // 45 and 46 bad of 50 after each lock, alone and run after run; all bad; drawn at random.
-        receiver_cases::runs::one_run(),
-        receiver_cases::runs::two_runs(),
-        receiver_cases::runs::all_bad(),
-        receiver_cases::runs::drawn(),
-        // Bad seconds, slips of bits, and data that locks falsely.
-        receiver_cases::slips::bad_seconds(),
-        receiver_cases::slips::slips(),
-        receiver_cases::slips::false_locks(),
-        // A hunt of 100,000 bits.
-        receiver_cases::hunts::long_hunt(),
-    ];
-    sets.into_iter().flatten().collect()
-}
 
 fn stream_bytes(bits: &[bool]) -> Vec<u8> {
     let bytes = bytes_of_bits(bits);
@@ -85,7 +57,7 @@ fn main() {
     let [input_file, output_file] = &files[..] else { panic!("usage: receiver_cases INPUTFILE OUTPUTFILE") };
     let mut input = Vec::new();
     let mut output = String::new();
-    let streams = all_streams();
+    let streams = receiver_cases::all();
     for (number, stream) in streams.iter().enumerate() {
         let answered = answers(&stream.bits);
         hold_to_meaning(number, stream, &answered);

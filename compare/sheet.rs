@@ -1,7 +1,7 @@
-//! Writes the stored runs of the marking program: `sheet RUNSFOLDER`.
+//! Writes the stored runs of the marking program into their crates: `sheet CRATESFOLDER`.
 //!
-//! For each run a folder with the file `key` (but where the key is absent), the standard input (exercise byte, then
-//! submission) as `stdin`, and the one line expected as `stdout`.
+//! For each run, in the folder `mark_` and its name, the file `data/key` (but where the key is absent), the standard
+//! input (exercise byte, then submission) as `stdin`, and the one line expected as `stdout`.
 
 #[allow(dead_code)]
 mod second;
@@ -66,17 +66,17 @@ fn write_run(folder: &Path, run: &Run) -> std::io::Result<()> {
     let input = [&[run.exercise], &run.submission[..]].concat();
     let found = line(run.key.as_deref(), &input);
     assert_eq!(found, run.expected, "{} is not what it was meant to be", run.name);
-    std::fs::create_dir_all(folder)?;
     if let Some(key) = &run.key {
-        std::fs::write(folder.join("key"), key)?;
+        std::fs::create_dir_all(folder.join("data"))?;
+        std::fs::write(folder.join("data/key"), key)?;
     }
     std::fs::write(folder.join("stdin"), &input)?;
     std::fs::write(folder.join("stdout"), found)
 }
 
 fn main() {
-    let folder = std::env::args().nth(1).expect("usage: sheet RUNSFOLDER");
+    let folder = std::env::args().nth(1).expect("usage: sheet CRATESFOLDER");
     for run in runs() {
-        write_run(&Path::new(&folder).join(run.name), &run).expect("run");
+        write_run(&Path::new(&folder).join(format!("mark_{}", run.name)), &run).expect("run");
     }
 }

@@ -27,8 +27,13 @@ fn encoded_case(sheet: &[u8], exercise: u8) -> Case {
 
 /// Groups drawn for a drawn key: often all that is wanted, now and then some missing, wrong or damaged.
 pub fn drawn() -> Vec<Case> {
-    let mut draws = Draws::from(9);
-    (0..60).map(|number| drawn_case(&mut draws, number % 3 == 0)).collect()
+    drawn_from(9, 60)
+}
+
+/// So many of them, from a start of the generator.
+pub fn drawn_from(start: u64, count: usize) -> Vec<Case> {
+    let mut draws = Draws::from(start);
+    (0..count).map(|number| drawn_case(&mut draws, number % 3 == 0)).collect()
 }
 
 fn drawn_case(draws: &mut Draws, text_wanted: bool) -> Case {

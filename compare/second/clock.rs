@@ -25,8 +25,9 @@ pub struct Date {
 }
 
 /// 1900-03-01 and 2100-02-28.
-const FIRST_DAY: u32 = 15_079;
-const LAST_DAY: u32 = 88_127;
+pub const FIRST_DAY: u32 = 15_079;
+pub const LAST_DAY: u32 = 88_127;
+const FIRST_DATE: (u32, u32, u32) = (1900, 3, 1);
 
 const DAY_MINUTES: i64 = 24 * 60;
 
@@ -93,6 +94,11 @@ fn local(clock: Clock) -> (i64, i64) {
 
 /// The local date and time of the clock held, if one is held and both days are in range.
 pub fn date(held: Option<Clock>) -> Result<Date, u8> {
+    date_by(held, calendar)
+}
+
+/// The same, with a calendar: year, month and day of a day number in range.
+pub fn date_by(held: Option<Clock>, calendar: impl Fn(u32) -> (u32, u32, u32)) -> Result<Date, u8> {
     let clock = held.ok_or(CLOCK_OR_DATE)?;
     let (local_day, minute) = local(clock);
     if !day_in_range(i64::from(clock.day)) || !day_in_range(local_day) {
@@ -105,11 +111,20 @@ pub fn date(held: Option<Clock>) -> Result<Date, u8> {
 
 /// Year, month and day of a day number in range, walked to from the first day.
 pub fn calendar(day_number: u32) -> (u32, u32, u32) {
-    let mut date = (1900, 3, 1);
+    let mut date = FIRST_DATE;
     for _ in FIRST_DAY..day_number {
         date = next_day(date);
     }
     date
+}
+
+/// The dates of all days in range, walked through once.
+pub fn all_dates() -> Vec<(u32, u32, u32)> {
+    let mut dates = vec![FIRST_DATE];
+    for _ in FIRST_DAY..LAST_DAY {
+        dates.push(next_day(dates[dates.len() - 1]));
+    }
+    dates
 }
 
 fn next_day((year, month, day): (u32, u32, u32)) -> (u32, u32, u32) {

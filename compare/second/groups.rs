@@ -109,13 +109,12 @@ pub fn group_of(blocks: [Option<u16>; 4]) -> Group {
     Group { words: blocks.map(|block| block.unwrap_or(0)), good: blocks.map(|block| block.is_some()) }
 }
 
-/// The group in 13 bytes; after a bad second block the third is bad.
+/// The group in 13 bytes, each block judged by itself, the third by word 2 as it stands.
 pub fn read_bytes(bytes: &[u8]) -> Group {
     let bits = bits_of_bytes(bytes);
     let blocks: Vec<&[bool]> = bits.chunks(BLOCK_BITS).collect();
-    let second = judge(blocks[1], Kind::B);
-    let third = second.and_then(|second_word| judge(blocks[2], third_kind(second_word)));
-    group_of([judge(blocks[0], Kind::A), second, third, judge(blocks[3], Kind::D)])
+    let kinds = kinds(word(blocks[1]));
+    group_of([0, 1, 2, 3].map(|place| judge(blocks[place], kinds[place])))
 }
 
 /// The four words in 13 bytes, good or not.

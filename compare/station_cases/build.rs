@@ -65,6 +65,13 @@ pub fn of_station(pi: u16, group: Group) -> Group {
     Group { words: [pi, second, third, fourth], ..group }
 }
 
+/// A group in nine bytes: four words, high byte first, and the mask, bit 3 for word 1.
+pub fn group_bytes(group: &Group) -> Vec<u8> {
+    let mask = group.good.iter().fold(0, |mask, &good| 2 * mask + u8::from(good));
+    let words = group.words.iter().flat_map(|word| word.to_be_bytes());
+    words.chain([mask]).collect()
+}
+
 /// A small fixed generator: each draw multiplies, adds, and gives the upper half.
 pub struct Draws {
     state: u64,

@@ -12,7 +12,7 @@ pub fn mixtures() -> Vec<Stream> {
 }
 
 /// Groups of one station, with another one for a few groups now and then.
-fn drawn(draws: &mut Draws, count: usize) -> Vec<Group> {
+pub fn drawn(draws: &mut Draws, count: usize) -> Vec<Group> {
     let mut pi = STATIONS[draws.below(3) as usize];
     let mut groups = Vec::new();
     for _ in 0..count {

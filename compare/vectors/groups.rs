@@ -32,8 +32,8 @@ fn groups(tally: &mut Tally) {
     tally.equal("version 1 reads back", read_bytes(&write_bytes(version_1)).good, [true; 4]);
     let mut second_bad = write_bytes(FIRST_GROUP);
     second_bad[4] ^= 1;
-    let expected = Group { words: [0x1001, 0, 0, 0x4142], good: [true, false, false, true] };
-    tally.equal("after a bad second block the third is bad", read_bytes(&second_bad), expected);
+    let expected = Group { words: [0x1001, 0, 0xE0CD, 0x4142], good: [true, false, true, true] };
+    tally.equal("the third block is judged by word 2 as it stands", read_bytes(&second_bad), expected);
 }
 
 const EXAMPLE: Clock = Clock { day: 45_218, hour: 23, minute: 59, negative: true, offset: 10 };
