@@ -4,6 +4,7 @@
 #[allow(dead_code)]
 #[path = "cases/all.rs"]
 mod cases;
+mod codes;
 #[path = "kinds/all.rs"]
 mod kinds;
 #[allow(dead_code)]

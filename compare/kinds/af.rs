@@ -2,36 +2,24 @@
 
 use super::Kind as Cases;
 use crate::cases::build::Draws;
+use crate::codes::{code_code, frequency_code, list_numbers, SLOTS};
 use crate::library;
-use crate::second::frequencies::{code, frequency, fresh, take, AfList};
-
-/// A list has so many slots.
-pub const SLOTS: usize = 25;
+use crate::second::frequencies::{fresh, take};
 
 fn try_code(cases: &mut Cases, khz: u32) {
-    let second = code(khz).map_or_else(u32::from, |code| 256 + u32::from(code));
-    cases.equal(|| format!("{khz} kHz"), library::code(khz), second);
+    cases.equal(|| format!("{khz} kHz"), library::code(khz), code_code(khz));
 }
 
 /// Each code's frequency, and each frequency's code.
 pub fn codes() -> Cases {
     let mut cases = Cases::new("AF codes and kHz");
     for code in 0..=u8::MAX {
-        let second = frequency(code).unwrap_or_else(u32::from);
-        cases.equal(|| format!("code {code}"), library::frequency(code), second);
+        cases.equal(|| format!("code {code}"), library::frequency(code), frequency_code(code));
     }
     for khz in (0..=200_000).chain([u32::MAX - 1, u32::MAX]) {
         try_code(&mut cases, khz);
     }
     cases
-}
-
-/// How many are expected, how many are held, and the slots.
-pub fn list_numbers(list: &AfList) -> Vec<u32> {
-    let mut numbers = vec![list.expected as u32, list.held.len() as u32];
-    numbers.extend(&list.held);
-    numbers.resize(2 + SLOTS, 0);
-    numbers
 }
 
 /// A code: a count, a frequency of few or of all, or any.

@@ -2,36 +2,16 @@
 
 use super::Kind as Cases;
 use crate::cases::build::Draws;
+use crate::codes::{judge_code, kind_number, read_code};
 use crate::library;
-use crate::second::blocks::{judge_number, read_number, write_number, Kind, KINDS};
-
-/// The library's number of a kind.
-fn number_of(kind: Kind) -> u8 {
-    1 + KINDS.iter().position(|&other| other == kind).unwrap() as u8
-}
-
-fn read_code(block: u32) -> u32 {
-    match read_number(block) {
-        Ok(Some((word, kind))) => u32::from(number_of(kind)) << 16 | u32::from(word),
-        Ok(None) => 0,
-        Err(refusal) => u32::from(refusal),
-    }
-}
-
-fn judge_code(block: u32, kind: Kind) -> u32 {
-    match judge_number(block, kind) {
-        Ok(Some(word)) => 1 << 16 | u32::from(word),
-        Ok(None) => 0,
-        Err(refusal) => u32::from(refusal),
-    }
-}
+use crate::second::blocks::{write_number, Kind, KINDS};
 
 fn try_read(cases: &mut Cases, block: u32) {
     cases.equal(|| format!("{block:07x}"), library::read_block(block), read_code(block));
 }
 
 fn try_judge(cases: &mut Cases, block: u32, kind: Kind) {
-    let found = library::judge_block(block, number_of(kind));
+    let found = library::judge_block(block, kind_number(kind));
     cases.equal(|| format!("{block:07x} as {kind:?}"), found, judge_code(block, kind));
 }
 
@@ -40,7 +20,7 @@ pub fn written() -> Cases {
     let mut cases = Cases::new("blocks written");
     for word in 0..=u16::MAX {
         for kind in KINDS {
-            let found = library::write_block(word, number_of(kind));
+            let found = library::write_block(word, kind_number(kind));
             cases.equal(|| format!("{word:04x} as {kind:?}"), found, write_number(word, kind));
         }
     }

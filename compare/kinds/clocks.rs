@@ -2,8 +2,9 @@
 
 use super::Kind as Cases;
 use crate::cases::build::Draws;
+use crate::codes::{read_clock_code, write_clock_code};
 use crate::library;
-use crate::second::clock::{in_range, read as read_words, write, Clock, FIRST_DAY, LAST_DAY};
+use crate::second::clock::{write, Clock, FIRST_DAY, LAST_DAY};
 
 /// A clock, most of them in range or near its edges.
 pub fn drawn_clock(draws: &mut Draws) -> Clock {
@@ -22,17 +23,8 @@ pub fn drawn_clock(draws: &mut Draws) -> Clock {
     Clock { day, hour, minute, negative: draws.below(2) == 1, offset }
 }
 
-pub fn clock_code(held: Option<Clock>) -> u64 {
-    held.map_or(0, |clock| {
-        let sign = u64::from(clock.negative);
-        let time = u64::from(clock.hour) << 17 | u64::from(clock.minute) << 9 | sign << 8 | u64::from(clock.offset);
-        1 << 57 | u64::from(clock.day) << 25 | time
-    })
-}
-
 fn try_read(cases: &mut Cases, words: [u16; 4]) {
-    let second = Some(read_words(words)).filter(|&clock| in_range(clock));
-    cases.equal(|| format!("{words:x?}"), library::read_clock(words), clock_code(second));
+    cases.equal(|| format!("{words:x?}"), library::read_clock(words), read_clock_code(words));
 }
 
 /// Words of drawn clocks with a bit turned or not, all fourth words of one day, and drawn words.
@@ -55,16 +47,9 @@ pub fn read() -> Cases {
     cases
 }
 
-fn write_code(pi: u16, tp: bool, pty: u8, clock: Clock) -> u64 {
-    match write(pi, tp, pty, clock) {
-        Ok(words) => words.into_iter().fold(0, |all, word| all << 16 | u64::from(word)),
-        Err(refusal) => u64::from(refusal),
-    }
-}
-
 fn try_write(cases: &mut Cases, pi: u16, tp: bool, pty: u8, clock: Clock) {
     let found = library::write_clock(pi, tp, pty, &clock);
-    cases.equal(|| format!("{pi:x} {tp} {pty} {clock:?}"), found, write_code(pi, tp, pty, clock));
+    cases.equal(|| format!("{pi:x} {tp} {pty} {clock:?}"), found, write_clock_code(pi, tp, pty, clock));
 }
 
 /// Drawn clocks, and each field alone through all its values.

@@ -3,18 +3,9 @@
 use super::clocks::drawn_clock;
 use super::Kind as Cases;
 use crate::cases::build::Draws;
+use crate::codes::date_code;
 use crate::library;
 use crate::second::clock::{all_dates, date_by, Clock, Date, FIRST_DAY, LAST_DAY};
-
-pub fn date_code(local: Result<Date, u8>) -> u64 {
-    match local {
-        Ok(date) => {
-            let fields = [date.month, date.day, date.weekday, date.hour, date.minute];
-            fields.into_iter().fold(1 << 16 | u64::from(date.year), |all, field| all << 8 | u64::from(field))
-        }
-        Err(refusal) => u64::from(refusal),
-    }
-}
 
 /// A calendar that was walked through once.
 pub struct Calendar {

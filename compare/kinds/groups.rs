@@ -2,9 +2,10 @@
 
 use super::Kind as Cases;
 use crate::cases::build::{turned, Draws};
+use crate::codes::{group_codes, switches_code};
 use crate::library;
 use crate::second::answers::BUFFER_TOO_SHORT;
-use crate::second::groups::{fields, read_bytes, write_bytes, Fields, Switches, GROUP_BYTES};
+use crate::second::groups::{write_bytes, GROUP_BYTES};
 
 fn words(draws: &mut Draws) -> [u16; 4] {
     [0; 4].map(|_| draws.word())
@@ -43,14 +44,9 @@ pub fn put() -> Cases {
     cases
 }
 
-fn read_second(bytes: &[u8]) -> [u32; 4] {
-    let group = read_bytes(bytes);
-    [0, 1, 2, 3].map(|place| u32::from(group.good[place]) << 16 | u32::from(group.words[place]))
-}
-
 fn try_read(cases: &mut Cases, bytes: &[u8]) {
     let found = [0, 1, 2, 3].map(|place| library::read_word(bytes, place));
-    cases.equal(|| format!("{bytes:x?}"), found, read_second(bytes));
+    cases.equal(|| format!("{bytes:x?}"), found, group_codes(bytes));
 }
 
 /// Written groups, whole and damaged in one block or more, and drawn bytes.
@@ -68,16 +64,6 @@ pub fn read() -> Cases {
         try_read(&mut cases, &draws.bytes(GROUP_BYTES));
     }
     cases
-}
-
-fn switches_code(word2: u16) -> u8 {
-    match fields([0, word2, 0, 0]) {
-        Fields::Name0A { switches, .. } | Fields::Name0B { switches, .. } => {
-            let Switches { ta, ms, di } = switches;
-            8 + 4 * u8::from(ta) + 2 * u8::from(ms) + u8::from(di)
-        }
-        _ => 0,
-    }
 }
 
 /// All words 2.

@@ -1,9 +1,8 @@
 //! Station records: streams of groups, each into a fresh record.
 
-use super::af::list_numbers;
-use super::clocks::clock_code;
-use super::dates::{date_code, Calendar};
+use super::dates::Calendar;
 use super::Kind as Cases;
+use crate::codes::{clock_code, date_code, list_numbers};
 use crate::library::{self, RECORD_BYTES};
 use crate::second::answers::BUFFER_TOO_SHORT;
 use crate::second::groups::Group;

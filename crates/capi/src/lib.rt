@@ -1,9 +1,9 @@
 // The bench for callers in other languages: functions on numbers and byte slices, each a thin call of the floor below.
 // An answer is one number, and what takes more room than that is written into a buffer that the caller lends.
-mod af;
-mod block;
-mod group;
-mod hearing;
-mod marking;
-mod stations;
-mod times;
+pub mod af;
+pub mod block;
+pub mod group;
+pub mod hearing;
+pub mod marking;
+pub mod stations;
+pub mod times;
