@@ -26,6 +26,10 @@ fn write_hex(number: u64) {
     io::print_hex(STDOUT_FILENO, number, 1);
 }
 
+fn write_byte(byte: u8) {
+    write_hex(byte as u64);
+}
+
 // Four words as thirteen bytes.
 fn write_group(case: &[u8]) {
     let mut out = [0u8; 13];
@@ -38,7 +42,7 @@ fn write_group(case: &[u8]) {
         0,
     );
     for i in 0..13usize {
-        write_hex(out[i] as u64);
+        write_byte(out[i]);
     }
 }
 
