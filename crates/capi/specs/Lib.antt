@@ -4,5 +4,3 @@ pub mod Groups
 pub mod Times
 pub mod Frequencies
 pub mod Marking
-pub mod Hearing
-pub mod Stations

@@ -56,7 +56,7 @@ pub extern "C" fn bench_af_list(bytes: &[u8], asked: usize) -> u32
     list_code(list_of(bytes), asked)
 }
 
-pub(crate) fn list_code(list: AfList, asked: usize) -> u32
+pub fn list_code(list: AfList, asked: usize) -> u32
     ensures { λ r. ⌜ r ≡ listCode list asked ⌝ }
 {
     match asked {
@@ -67,7 +67,7 @@ pub(crate) fn list_code(list: AfList, asked: usize) -> u32
 }
 
 // Two bytes as a word, high first.
-pub(crate) fn word_of(high: u8, low: u8) -> u16
+pub fn word_of(high: u8, low: u8) -> u16
     ensures { λ r. ⌜ r ≡ high * 256 + low ⌝ }
 {
     (high as u16) * 256 + (low as u16)

@@ -3,7 +3,5 @@
 pub mod af;
 pub mod block;
 pub mod group;
-pub mod hearing;
 pub mod marking;
-pub mod stations;
 pub mod times;

@@ -80,7 +80,7 @@ fn held_of(held: bool, clock: Clock) -> Held
     Held::Nothing
 }
 
-pub(crate) fn held_code(held: Held) -> u64
+pub fn held_code(held: Held) -> u64
     ensures { λ r. ⌜ r ≡ heldCode held ⌝ }
 {
     match held {
@@ -118,7 +118,7 @@ fn written_code(written: Written) -> u64
     }
 }
 
-pub(crate) fn local_code(local: Local) -> u64
+pub fn local_code(local: Local) -> u64
     ensures { λ r. ⌜ r ≡ localCode local ⌝ }
 {
     match local {

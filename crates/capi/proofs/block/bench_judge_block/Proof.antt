@@ -23,7 +23,8 @@ judged-code-requires c κs = search needs
 returns : tie.Need-returns
 returns c =
     let bits = c .before .before .before .args .bits in
-    c .judged-code .ensures ∙ ap judgedCode (c .before .judge .ensures .0 ∙ ap (judgeOf bits) (c .before .before .kind-numbered .ensures))
+    let kind = ap (judgeOf bits) (c .before .before .kind-numbered .ensures) in
+    c .judged-code .ensures ∙ ap judgedCode (c .before .judge .ensures .0 ∙ kind)
 
 pub bench-judge-block-spec : {M : Type 1} → statement M
 bench-judge-block-spec =

@@ -19,7 +19,9 @@ same-length : tie.Need-same-length
 same-length c = search needs
 
 returns : tie.Need-returns
-returns c = (c .put-code .ensures ∙ ap putNumber (c .before .before .before .put-at .ensures .0), c .before .before .before .put-at .ensures .2)
+returns c =
+    let put = c .before .before .before .put-at .ensures in
+    (c .put-code .ensures ∙ ap putNumber (put .0), put .2)
 
 pub bench-put-group-spec : {M : Type 1} → statement M
 bench-put-group-spec = tie.close (tie.spec put-at-requires put-code-requires same-length returns)

@@ -18,7 +18,8 @@ word-code-requires c κs = search needs
 
 returns : tie.Need-returns
 returns c =
-    c .word-code .ensures ∙ ap (λ (g : Group). wordCode g (c .before .before .before .args .place)) (c .before .group-of .ensures)
+    let place = c .before .before .before .args .place in
+    c .word-code .ensures ∙ ap (λ (g : Group). wordCode g place) (c .before .group-of .ensures)
 
 pub bench-read-word-spec : {M : Type 1} → statement M
 bench-read-word-spec = tie.close (tie.spec group-of-requires word-code-requires returns)

@@ -26,7 +26,8 @@ returns : tie.Need-returns
 unfolding wordOf
 returns c =
     let one = c .before .before .all-good .ensures in
-    c .carried-code .ensures ∙ ap carriedCode (c .before .switches-of .ensures ∙ ap (λ (g : Group). carriedOf (wordOf g 1)) one)
+    let carried = c .before .switches-of .ensures ∙ ap (λ (g : Group). carriedOf (wordOf g 1)) one in
+    c .carried-code .ensures ∙ ap carriedCode carried
 
 pub bench-switches-spec : {M : Type 1} → statement M
 bench-switches-spec =

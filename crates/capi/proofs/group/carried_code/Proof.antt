@@ -38,7 +38,8 @@ enum-told c = search needs
 
 returns : tie.Need-returns
 returns c =
-    rw (c .before .before .before .before .carried .given .1, c .before .before .bit .ensures .0, c .before .bit2 .ensures .0, c .bit3 .ensures .0)
+    let ta = c .before .before in
+    rw (ta .before .before .carried .given .1, ta .bit .ensures .0, c .before .bit2 .ensures .0, c .bit3 .ensures .0)
 
 returns-2 : tie.Need-returns-2
 returns-2 c = search needs

@@ -27,8 +27,9 @@ local-code-requires c κs = search needs
 returns : tie.Need-returns
 returns c =
     let held = c .before .before .before .before .args .held in
-    c .local-code .ensures ∙ ap localCode (c .before .local-date .ensures .0
-    ∙ ap localDateOf (c .before .before .held-of .ensures ∙ ap (heldOf held) (c .before .before .before .clock-of .ensures)))
+    let clock = ap (heldOf held) (c .before .before .before .clock-of .ensures) in
+    c .local-code .ensures
+    ∙ ap localCode (c .before .local-date .ensures .0 ∙ ap localDateOf (c .before .before .held-of .ensures ∙ clock))
 
 pub bench-local-date-spec : {M : Type 1} → statement M
 bench-local-date-spec =

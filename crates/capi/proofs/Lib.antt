@@ -1,3 +1,0 @@
--- The laws of the crate `capi`.
-pub mod Buffers
-pub mod Rooms
