@@ -3,10 +3,10 @@
 //! A case in the input file: sheet length (2 bytes, high first), exercise (1 byte), submission length (2 bytes, high
 //! first), the sheet, the submission. Its line in the output file: `case N exercise E answer A place P`, N from 0.
 
-#[allow(dead_code)]
-mod second;
 #[path = "cases/all.rs"]
 mod cases;
+#[allow(dead_code)]
+mod second;
 
 use cases::build::Case;
 use second::marker::{mark, Mark};

@@ -4,10 +4,10 @@
 //! in the output file: one for each answer other than nothing, `stream N bit B` with `locked`, `lost`,
 //! `group W1 W2 W3 W4 good M`, or `group W1 W2 W3 W4 good M lost`; and at the end `stream N end`. N and B count from 0.
 
-#[allow(dead_code)]
-mod second;
 #[path = "receiver_cases/all.rs"]
 mod receiver_cases;
+#[allow(dead_code)]
+mod second;
 
 use receiver_cases::build::Stream;
 use second::bits::bytes_of_bits;

@@ -23,7 +23,7 @@ use std::time::Instant;
 const STREAM_BYTES: usize = 2_000_000;
 const BUFFER_BYTES: usize = 65_536;
 const ROUNDS: usize = 9;
-const MARKS: usize = 20;
+const MARKS: usize = 50;
 
 /// A sum over all answers and groups, by which both are held to the same.
 fn added(sum: u64, answer: u8, words: [u16; 4], good: [bool; 4]) -> u64 {
@@ -78,24 +78,28 @@ fn plain_hears(stream: &[u8]) -> u64 {
     sum
 }
 
-/// What is measured: its name, the library's way and plain Rust's, each giving a number to hold them to.
+/// What is measured: its name, how many bits it takes and how often they are taken, the library's way and plain Rust's,
+/// each giving a number to hold them to.
 struct Measured<'a> {
     name: &'static str,
+    bits: usize,
+    count: usize,
     library: Box<dyn Fn() -> u64 + 'a>,
     plain: Box<dyn Fn() -> u64 + 'a>,
     times: [Vec<f64>; 2],
 }
 
-fn timed(work: &dyn Fn() -> u64) -> (f64, u64) {
+/// The milliseconds that it took once, of so many times, and what all gave together.
+fn timed(count: usize, work: &dyn Fn() -> u64) -> (f64, u64) {
     let start = Instant::now();
-    let found = work();
-    (start.elapsed().as_secs_f64() * 1_000.0, found)
+    let found = (0..count).fold(0, |all, _| work().wrapping_add(all));
+    (start.elapsed().as_secs_f64() * 1_000.0 / count as f64, found)
 }
 
 impl Measured<'_> {
     fn round(&mut self) {
-        let (library, found) = timed(&self.library);
-        let (plain, expected) = timed(&self.plain);
+        let (library, found) = timed(self.count, &self.library);
+        let (plain, expected) = timed(self.count, &self.plain);
         assert_eq!(found, expected, "{}: the two do not answer the same", self.name);
         self.times[0].push(library);
         self.times[1].push(plain);
@@ -108,8 +112,8 @@ impl Measured<'_> {
         let [library, plain] = &self.times;
         for (what, at) in [("best", 0), ("median", ROUNDS / 2)] {
             let (one, other) = (library[at], plain[at]);
-            let ratio = one / other;
-            println!("| {} | {what} | {one:.3} | {other:.3} | {ratio:.2} |", self.name);
+            let (ratio, speed) = (one / other, self.bits as f64 / one / 1_000.0);
+            println!("| {} | {what} | {one:.3} | {other:.3} | {ratio:.2} | {speed:.0} |", self.name);
         }
     }
 }
@@ -126,23 +130,28 @@ fn main() {
     let sheet = sheet(&[&key]);
     let full: Vec<[u16; 4]> = passing(&key).into_iter().cycle().take(1_024).collect();
     let full = bytes(&full);
+    let marked = || u64::from(library::mark(&sheet, 0, &full));
+    let plainly_marked = || u64::from(plain::marker::mark(&key, &full).0);
+    let bits = 8 * STREAM_BYTES;
     let mut all = [
-        measured("16,000,000 bits of noise", || library_hears(&noise), || plain_hears(&noise)),
-        measured("16,000,000 bits of valid groups", || library_hears(&groups), || plain_hears(&groups)),
-        measured(
-            "20 full submissions marked",
-            || (0..MARKS).map(|_| u64::from(library::mark(&sheet, 0, &full))).sum(),
-            || (0..MARKS).map(|_| u64::from(plain::marker::mark(&key, &full).0)).sum(),
-        ),
+        measured("16,000,000 bits of noise", bits, 1, || library_hears(&noise), || plain_hears(&noise)),
+        measured("16,000,000 bits of valid groups", bits, 1, || library_hears(&groups), || plain_hears(&groups)),
+        measured("a full submission marked", 8 * full.len(), MARKS, marked, plainly_marked),
     ];
     for _ in 0..ROUNDS {
         all.iter_mut().for_each(Measured::round);
     }
-    println!("| What | Of {ROUNDS} rounds | Library, ms | Plain Rust, ms | Library / Rust |");
-    println!("|---|---|---|---|---|");
+    println!("| What | Of {ROUNDS} rounds | Library, ms | Plain Rust, ms | Library / Rust | Library, million bits/s |");
+    println!("|---|---|---|---|---|---|");
     all.iter_mut().for_each(Measured::print);
 }
 
-fn measured<'a>(name: &'static str, library: impl Fn() -> u64 + 'a, plain: impl Fn() -> u64 + 'a) -> Measured<'a> {
-    Measured { name, library: Box::new(library), plain: Box::new(plain), times: [Vec::new(), Vec::new()] }
+fn measured<'a>(
+    name: &'static str,
+    bits: usize,
+    count: usize,
+    library: impl Fn() -> u64 + 'a,
+    plain: impl Fn() -> u64 + 'a,
+) -> Measured<'a> {
+    Measured { name, bits, count, library: Box::new(library), plain: Box::new(plain), times: [Vec::new(), Vec::new()] }
 }

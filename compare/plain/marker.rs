@@ -53,14 +53,22 @@ fn content(key: &Key, words: [u16; 4], first_flag: &mut Option<u16>) -> Result<O
     match second >> 11 {
         0 | 1 => {
             let address = usize::from(second & 3);
-            if fourth == pair(&key.name, 2 * address) { Ok(Some(address)) } else { Err(6) }
+            if fourth == pair(&key.name, 2 * address) {
+                Ok(Some(address))
+            } else {
+                Err(6)
+            }
         }
         4 => {
             let address = usize::from(second & 15);
             let flag = second >> 4 & 1;
             let text = third == pair(&key.text, 4 * address) && fourth == pair(&key.text, 4 * address + 2);
             let right = key.text_wanted && text && *first_flag.get_or_insert(flag) == flag;
-            if right { Ok(Some(4 + address)) } else { Err(6) }
+            if right {
+                Ok(Some(4 + address))
+            } else {
+                Err(6)
+            }
         }
         5 => Err(6),
         _ => Ok(None),

@@ -1,6 +1,7 @@
 //! A receiver as one would write it in Rust: two windows of 26 bits, both divided anew after every bit.
 
 use super::divide::{left, third, A, B, C, C_PRIME, D};
+use std::hint::black_box;
 
 const BLOCK: u32 = (1 << 26) - 1;
 const PAIR: u64 = (1 << 52) - 1;
@@ -33,11 +34,11 @@ impl Receiver {
     pub fn take(&mut self, bit: u8) -> Answer {
         self.window = (self.window << 1 | u64::from(bit)) & PAIR;
         self.count += 1;
-        let older = left((self.window >> 26) as u32);
-        let newer = left(self.window as u32 & BLOCK);
+        // Divided whether the answer is asked for or not.
+        let [older, newer] = black_box([left((self.window >> 26) as u32), left(self.window as u32 & BLOCK)]);
         match self.place {
             None => self.hunt(older, newer),
-            Some(place) => self.follow(std::hint::black_box(older) & 0 | newer, place),
+            Some(place) => self.follow(newer, place),
         }
     }
 
