@@ -1,0 +1,2 @@
+-- The claim holds.
+pub mod OneAnswer

@@ -1,0 +1,2 @@
+-- What is claimed of the library for other languages.
+pub mod OneAnswer
