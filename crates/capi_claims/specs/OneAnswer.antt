@@ -1,5 +1,5 @@
--- No second answer: each public function of `capi` and `capi_states` asks nothing of its arguments, two answers that meet
--- its promise are equal, and so is the whole of each buffer that was lent, at the two exits.
+-- No second answer: each public function of `capi` and `capi_states` asks nothing of its arguments, two answers that
+-- meet its promise are equal, and so is the whole of each buffer that was lent, at the two exits.
 use denote.Ref.{now}
 use Rattle.demands.specs.OneAnswer.{OneAnswer, OneExit}
 use Rattle.capi.proofs.block as block
