@@ -10,7 +10,7 @@ mod cases {
     pub mod build;
 }
 
-use cases::build::{bytes, changed, name_0b, passing, plain_key, sheet, text_2a, text_key, turned, without};
+use cases::build::{bytes, changed, name_0b, passing, plain_key, sheet, text_2a, text_key, turned, without, Draws};
 use second::blocks::{offset, Kind};
 use second::clock::{write as clock_words, Clock};
 use second::keys::Key;
@@ -54,6 +54,7 @@ fn submissions() -> Vec<File> {
     let sent = bytes(&groups);
     let neighbour = bytes(&passing(&Key { pi: 0xD3C3, ..key }));
     vec![
+        submission("nonsense", Draws::from(10).bytes(260), (4, 0)),
         submission("cut_short", sent[..sent.len() - 1].to_vec(), (3, 0)),
         submission("any_kind", kind_for(&sent, 0, Kind::B, Kind::A), (4, 0)),
         submission("c_for_c_prime", c_for_c_prime(&key), (4, 2)),
