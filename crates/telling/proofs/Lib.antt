@@ -1,0 +1,4 @@
+-- The laws of the floor `telling`.
+pub mod Buffers
+pub mod Digits
+pub mod Sizes

@@ -1,0 +1,60 @@
+-- `telling::letters::put_character` meets its promise: by whether it is shown as it is.
+use native.Mathlib.Omega.{arith}
+use Rattle.telling.specs.Letters.{characterText}
+use Rattle.telling.proofs.Buffers.{wrote-two}
+use borrow.Author.Needs.{needs}
+use Rattle.telling.proofs.letters.put_character.Statement.{statement}
+use Rattle.telling.proofs.letters.put_character.Tie as tie
+use Rattle.telling.proofs.letters.put_character.Reads as reads
+use Rattle.telling.proofs.letters.put_character.Lts as lts
+use Rattle.telling.proofs.letters.is_shown.Reads as is-shown-reads
+use Rattle.telling.proofs.letters.put_byte.Reads as put-byte-reads
+use Rattle.telling.proofs.letters.put_two.Reads as put-two-reads
+
+is-shown-requires : tie.Need-is-shown-requires
+is-shown-requires c κs = search needs
+
+put-byte-requires : tie.Need-put-byte-requires
+put-byte-requires c κs = search needs
+
+same-length : tie.Need-same-length
+same-length c = search needs
+
+returns : tie.Need-returns
+unfolding characterText
+returns c = rw (← c .before .before .before .before .before .is-shown .ensures, c .before .before .before .before .if1 .taken) (c .before .before .put-byte .ensures)
+
+put-byte-requires-2 : tie.Need-put-byte-requires-2
+put-byte-requires-2 c κs = search needs
+
+put-byte-requires-3 : tie.Need-put-byte-requires-3
+put-byte-requires-3 c κs = search needs
+
+put-two-requires : tie.Need-put-two-requires
+put-two-requires c κs = search needs
+
+same-length-2 : tie.Need-same-length-2
+same-length-2 c = search needs
+
+returns-2 : tie.Need-returns-2
+unfolding characterText
+returns-2 c =
+    let start = c .before .before .before .before .before .before .before .before .before .before .before .before .before .before .before in
+    let front = wrote-two (start .args .out .now) (start .args .at) (omega arith) (c .before .before .before .before .before .before .before .before .before .before .put-byte2 .ensures)
+        (c .before .before .before .before .before .before .put-byte3 .ensures) in
+    rw (← c .before .before .before .before .before .before .before .before .before .before .before .before .before .is-shown .ensures, c .before .before .before .before .before .before .before .before .before .before .before .before .if1 .left)
+    (wrote-two (start .args .out .now) (start .args .at) (omega arith) front (c .before .before .put-two .ensures))
+
+pub put-character-spec : {M : Type 1} → statement M
+put-character-spec =
+    tie.close
+    (tie.spec
+    is-shown-requires
+    put-byte-requires
+    same-length
+    returns
+    put-byte-requires-2
+    put-byte-requires-3
+    put-two-requires
+    same-length-2
+    returns-2)

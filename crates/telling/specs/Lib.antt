@@ -1,0 +1,3 @@
+-- What the floor `telling` means.
+pub mod Letters
+pub mod Pieces
