@@ -1,3 +1,4 @@
 -- What the floor `telling` means.
 pub mod Letters
 pub mod Pieces
+pub mod Lines

@@ -2,3 +2,5 @@
 // Refused, with number 8: a buffer that is too short; it is then as it was.
 mod letters;
 mod pieces;
+mod lines;
+mod words;

@@ -1,0 +1,14 @@
+-- `telling::lines::bit` meets its promise: by the flag.
+use Rattle.telling.proofs.lines.bit.Statement.{statement}
+use Rattle.telling.proofs.lines.bit.Tie as tie
+use Rattle.telling.proofs.lines.bit.Reads as reads
+use Rattle.telling.proofs.lines.bit.Lts as lts
+
+returns : tie.Need-returns
+returns c = rw (c .if1 .taken)
+
+returns-2 : tie.Need-returns-2
+returns-2 c = rw (c .if1 .left)
+
+pub bit-spec : {M : Type 1} → statement M
+bit-spec = tie.close (tie.spec returns returns-2)
