@@ -2,3 +2,4 @@
 pub mod Buffers
 pub mod Digits
 pub mod Sizes
+pub mod Handing

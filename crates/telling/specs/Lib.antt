@@ -2,3 +2,4 @@
 pub mod Letters
 pub mod Pieces
 pub mod Lines
+pub mod Told

@@ -1,6 +1,57 @@
 // What the program `listen` writes: each line as characters in a buffer that is lent.
 // Refused, with number 8: a buffer that is too short; it is then as it was.
+ghost use mathlib.Core.List.{[], _∷_};
+ghost use Rattle.telling.specs.Pieces.{lineText};
+ghost use Rattle.telling.specs.Lines.{lockLine, lostLine, groupText};
+ghost use Rattle.telling.specs.Told.{Tells};
+
 mod letters;
-mod pieces;
 mod lines;
+mod pieces;
 mod words;
+
+use groups::Group;
+
+// Whether a text was written into a buffer: so many characters, or refusal 8.
+pub enum Told {
+    Written(usize),
+    TooShort,
+}
+
+// A text at the front of a buffer, if it has room.
+fn handed(text: &[u8], out: &mut [u8]) -> Told
+    ensures { λ r. ⌜ Tells (now (text .entry)) (now (out .entry)) r (now (out .exit)) ⌝ }
+{
+    if out.len() < text.len() {
+        return Told::TooShort;
+    }
+    letters::put_bytes(text, out, 0);
+    Told::Written(text.len())
+}
+
+// That lock was taken with a bit; the first bit of a recording is bit 0.
+pub fn lock(bit: u64, out: &mut [u8]) -> Told
+    ensures { λ r. ⌜ Tells (lineText (lockLine bit)) (now (out .entry)) r (now (out .exit)) ⌝ }
+{
+    let mut own = [0u8; 320];
+    let length = pieces::put_line(lines::lock(bit), &mut own, 0);
+    handed(&own[..length], out)
+}
+
+// That lock was lost with a bit.
+pub fn lost(bit: u64, out: &mut [u8]) -> Told
+    ensures { λ r. ⌜ Tells (lineText (lostLine bit)) (now (out .entry)) r (now (out .exit)) ⌝ }
+{
+    let mut own = [0u8; 320];
+    let length = pieces::put_line(lines::lost(bit), &mut own, 0);
+    handed(&own[..length], out)
+}
+
+// The line of a group, with its number in the recording.
+pub fn group(number: u64, group: Group, out: &mut [u8]) -> Told
+    ensures { λ r. ⌜ Tells (groupText number group) (now (out .entry)) r (now (out .exit)) ⌝ }
+{
+    let mut own = [0u8; 1024];
+    let length = lines::put_group(number, group, &mut own);
+    handed(&own[..length], out)
+}

@@ -9,7 +9,7 @@ ghost use Rattle.telling.specs.Letters.{Wrote, word};
 ghost use Rattle.telling.specs.Pieces.{lineText};
 ghost use Rattle.telling.specs.Lines.{bitPiece, lockLine, lostLine, wordPiece, typePiece, versionPiece, headLine};
 ghost use Rattle.telling.specs.Lines.{nameLine, afLabel, afPiece, codesLine, partLine, pairLine, quote, signPiece, clockLine, localLine};
-ghost use Rattle.telling.specs.Lines.{contentLine, closingLine};
+ghost use Rattle.telling.specs.Lines.{contentLine, closingLine, end};
 ghost use Rattle.telling.specs.Lines.{clockOf, carriedBy, closingBy, groupText};
 use crate::pieces;
 use crate::pieces::Piece;
@@ -296,4 +296,117 @@ pub fn local_line(label: u64, local: Local) -> Line
         }
         Local::OutOfRange => line,
     }
+}
+
+// What a group's content says; `held` is the clock that its words make, if they do.
+fn content_line(content: Content, held: Held) -> Line
+    ensures { λ r. ⌜ lineText r ≡ lineText (contentLine content held) ⌝ }
+{
+    match content {
+        Content::Name0A {
+            switches: _,
+            address,
+            af,
+            pair,
+        } => name_with_af(address, pair, groups::fields::first(af), groups::fields::second(af)),
+        Content::Name0B {
+            switches: _,
+            address,
+            pair,
+        } => name(address, pair),
+        Content::Text2A {
+            flag,
+            address,
+            first,
+            second,
+        } => text_of_four(address, flag, first, second),
+        Content::Text2B {
+            flag,
+            address,
+            pair,
+        } => text_of_two(address, flag, pair),
+        Content::Clock4A => clock_line(words::CLOCK, held),
+        Content::Other => [Piece::Silent; 16],
+    }
+}
+
+// The end of a line, and nothing else.
+fn ending() -> Line
+    ensures { λ r. ⌜ lineText r ≡ lineText (end ∷ []) ⌝ }
+{
+    let mut line = [Piece::Silent; 16];
+    line[0] = END;
+    line
+}
+
+// How the line of a group's content ends.
+fn closing_line(content: Content, held: Held) -> Line
+    ensures { λ r. ⌜ lineText r ≡ lineText (closingLine content held) ⌝ }
+{
+    match content {
+        Content::Name0A {
+            switches: _,
+            address: _,
+            af: _,
+            pair: _,
+        } => ending(),
+        Content::Name0B {
+            switches: _,
+            address: _,
+            pair: _,
+        } => ending(),
+        Content::Text2A {
+            flag: _,
+            address: _,
+            first: _,
+            second: _,
+        } => ending(),
+        Content::Text2B {
+            flag: _,
+            address: _,
+            pair: _,
+        } => ending(),
+        Content::Clock4A => local_line(words::LOCAL, clock::local_date(held)),
+        Content::Other => ending(),
+    }
+}
+
+// The clock that a group's words make, if they do.
+fn clock_of(group: Group) -> Held
+    ensures { λ r. ⌜ r ≡ clockOf group ⌝ }
+{
+    clock::read(
+        groups::word(group, 1),
+        groups::word(group, 2),
+        groups::word(group, 3),
+    )
+}
+
+// What a group carries, and how its line ends.
+fn carried(group: Group) -> Line
+    ensures { λ r. ⌜ lineText r ≡ lineText (carriedBy group) ⌝ }
+{
+    if groups::is_all_good(group) {
+        return content_line(groups::fields::content_of(group), clock_of(group));
+    }
+    [Piece::Silent; 16]
+}
+
+fn closing(group: Group) -> Line
+    ensures { λ r. ⌜ lineText r ≡ lineText (closingBy group) ⌝ }
+{
+    if groups::is_all_good(group) {
+        return closing_line(groups::fields::content_of(group), clock_of(group));
+    }
+    ending()
+}
+
+// The line of a group at the front of a buffer that has room for it.
+pub fn put_group(number: u64, group: Group, out: &mut [u8]) -> usize
+    requires { ⌜ 1024 ≤ length (now out) ⌝ }
+    ensures { λ r. ⌜ Wrote (now (out .entry)) 0 (groupText number group) (now (out .exit)) r × (r ≤ 1024) ⌝ }
+{
+    let one = pieces::put_line(head(number, group), out, 0);
+    let two = pieces::put_line(carried(group), out, one);
+    pieces::put_line(closing(group), out, two)
 }
