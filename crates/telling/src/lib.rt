@@ -3,14 +3,20 @@
 ghost use mathlib.Core.List.{[], _∷_};
 ghost use Rattle.telling.specs.Pieces.{lineText};
 ghost use Rattle.telling.specs.Lines.{lockLine, lostLine, groupText};
+ghost use Rattle.telling.specs.Station.{stationText};
+ghost use Rattle.telling.specs.Totals.{countsLine};
 ghost use Rattle.telling.specs.Told.{Tells};
 
+mod held;
 mod letters;
 mod lines;
 mod pieces;
+pub mod totals;
 mod words;
 
 use groups::Group;
+use station::Record;
+use totals::Counts;
 
 // Whether a text was written into a buffer: so many characters, or refusal 8.
 pub enum Told {
@@ -53,5 +59,23 @@ pub fn group(number: u64, group: Group, out: &mut [u8]) -> Told
 {
     let mut own = [0u8; 1024];
     let length = lines::put_group(number, group, &mut own);
+    handed(&own[..length], out)
+}
+
+// All that is held of a station.
+pub fn record_lines(station: Record, out: &mut [u8]) -> Told
+    ensures { λ r. ⌜ Tells (stationText station) (now (out .entry)) r (now (out .exit)) ⌝ }
+{
+    let mut own = [0u8; 7919];
+    let length = held::put_station(station, &mut own);
+    handed(&own[..length], out)
+}
+
+// The counts of a recording.
+pub fn count_lines(counts: Counts, out: &mut [u8]) -> Told
+    ensures { λ r. ⌜ Tells (lineText (countsLine counts)) (now (out .entry)) r (now (out .exit)) ⌝ }
+{
+    let mut own = [0u8; 320];
+    let length = pieces::put_line(totals::lines_of(counts), &mut own, 0);
     handed(&own[..length], out)
 }

@@ -1,0 +1,14 @@
+-- `telling::held::mark` meets its promise: by whether the pair was seen.
+use Rattle.telling.proofs.held.mark.Statement.{statement}
+use Rattle.telling.proofs.held.mark.Tie as tie
+use Rattle.telling.proofs.held.mark.Reads as reads
+use Rattle.telling.proofs.held.mark.Lts as lts
+
+returns : tie.Need-returns
+returns c = rw (c .if1 .taken)
+
+returns-2 : tie.Need-returns-2
+returns-2 c = rw (c .if1 .left)
+
+pub mark-spec : {M : Type 1} → statement M
+mark-spec = tie.close (tie.spec returns returns-2)

@@ -1,0 +1,30 @@
+-- `telling::held::put_frequency` meets its promise: a space, and the number behind it.
+use native.Mathlib.Omega.{arith}
+use Rattle.telling.proofs.Buffers.{wrote-two}
+use borrow.Author.Needs.{needs}
+use Rattle.telling.proofs.held.put_frequency.Statement.{statement}
+use Rattle.telling.proofs.held.put_frequency.Tie as tie
+use Rattle.telling.proofs.held.put_frequency.Reads as reads
+use Rattle.telling.proofs.held.put_frequency.Lts as lts
+use Rattle.telling.proofs.letters.put_byte.Reads as put-byte-reads
+use Rattle.telling.proofs.letters.put_number.Reads as put-number-reads
+
+put-byte-requires : tie.Need-put-byte-requires
+put-byte-requires c κs = search needs
+
+put-number-requires : tie.Need-put-number-requires
+put-number-requires c κs = search needs
+
+same-length : tie.Need-same-length
+same-length c = search needs
+
+returns : tie.Need-returns
+returns c =
+    let start = c .before .before .before .before .before .before .before .before .before in (
+      wrote-two (start .args .out .now) (start .args .at) (omega arith) (c .before .before .before .before .before .before .put-byte .ensures)
+          (c .before .before .put-number .ensures .0),
+      omega arith,
+    )
+
+pub put-frequency-spec : {M : Type 1} → statement M
+put-frequency-spec = tie.close (tie.spec put-byte-requires put-number-requires same-length returns)

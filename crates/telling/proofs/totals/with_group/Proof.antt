@@ -1,0 +1,20 @@
+-- `telling::totals::with_group` meets its promise: one group more, and one bad more unless all blocks were good.
+use borrow.Author.Needs.{needs}
+use Rattle.telling.proofs.totals.with_group.Statement.{statement}
+use Rattle.telling.proofs.totals.with_group.Tie as tie
+use Rattle.telling.proofs.totals.with_group.Reads as reads
+use Rattle.telling.proofs.totals.with_group.Lts as lts
+use Rattle.telling.proofs.totals.bad_with.Reads as bad-with-reads
+use Rattle.telling.proofs.totals.more.Reads as more-reads
+
+more-requires : tie.Need-more-requires
+more-requires c κs = search needs
+
+bad-with-requires : tie.Need-bad-with-requires
+bad-with-requires c κs = search needs
+
+returns : tie.Need-returns
+returns c = rw (c .before .more .ensures, c .bad-with .ensures)
+
+pub with-group-spec : {M : Type 1} → statement M
+with-group-spec = tie.close (tie.spec more-requires bad-with-requires returns)

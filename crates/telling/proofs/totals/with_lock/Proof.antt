@@ -1,0 +1,16 @@
+-- `telling::totals::with_lock` meets its promise: one more.
+use borrow.Author.Needs.{needs}
+use Rattle.telling.proofs.totals.with_lock.Statement.{statement}
+use Rattle.telling.proofs.totals.with_lock.Tie as tie
+use Rattle.telling.proofs.totals.with_lock.Reads as reads
+use Rattle.telling.proofs.totals.with_lock.Lts as lts
+use Rattle.telling.proofs.totals.more.Reads as more-reads
+
+more-requires : tie.Need-more-requires
+more-requires c κs = search needs
+
+returns : tie.Need-returns
+returns c = rw (c .more .ensures)
+
+pub with-lock-spec : {M : Type 1} → statement M
+with-lock-spec = tie.close (tie.spec more-requires returns)
