@@ -1,3 +1,7 @@
+-- `telling::held::put_name` meets its promise: a line of pieces, and characters with their marks behind it.
+use native.Mathlib.Omega.{arith}
+use Rattle.telling.specs.Station.{nameText}
+use Rattle.telling.proofs.Buffers.{wrote-two}
 use borrow.Author.Needs.{needs}
 use Rattle.telling.proofs.held.put_name.Statement.{statement}
 use Rattle.telling.proofs.held.put_name.Tie as tie
@@ -9,41 +13,37 @@ use Rattle.telling.proofs.held.put_shown.Reads as put-shown-reads
 use Rattle.telling.proofs.held.station_line.Reads as station-line-reads
 use Rattle.telling.proofs.pieces.put_line.Reads as put-line-reads
 
--- src/held.rt:145:33
 station-line-requires : tie.Need-station-line-requires
 station-line-requires c κs = search needs
 
--- src/held.rt:145:9
 put-line-requires : tie.Need-put-line-requires
 put-line-requires c κs = search needs
 
--- src/held.rt:146:22
 name-characters-requires : tie.Need-name-characters-requires
 name-characters-requires c κs = search needs
 
--- src/held.rt:147:16
 name-seen-requires : tie.Need-name-seen-requires
 name-seen-requires c κs = search needs
 
--- src/held.rt:148:15
 slice-aggregate-put-shown : tie.Need-slice-aggregate-put-shown
 slice-aggregate-put-shown c = search needs
 
--- src/held.rt:148:28
 slice-aggregate-put-shown-2 : tie.Need-slice-aggregate-put-shown-2
 slice-aggregate-put-shown-2 c = search needs
 
--- src/held.rt:148:5
 put-shown-requires : tie.Need-put-shown-requires
 put-shown-requires c κs = search needs
 
--- src/held.rt:141:1
 same-length : tie.Need-same-length
 same-length c = search needs
 
--- src/held.rt:141:1
 returns : tie.Need-returns
-returns c = ?
+unfolding nameText
+returns c =
+    let start = c .before .before .before .before .before .before .before .before .before .before .before .before .before .before in
+    let line = rw (c .before .before .before .before .before .before .before .before .before .before .before .before .station-line .ensures) at (c .before .before .before .before .before .before .before .before .before .before .put-line .ensures .0) in
+    let shown = rw (c .before .before .before .before .before .before .before .name-characters .ensures, c .before .before .before .before .before .before .name-seen .ensures) at (c .before .before .put-shown .ensures .0) in
+    (wrote-two (start .args .out .now) (start .args .at) (omega arith) line shown, omega arith)
 
 pub put-name-spec : {M : Type 1} → statement M
 put-name-spec =

@@ -1,3 +1,7 @@
+-- `telling::held::put_rest` meets its promise: four texts, one behind the other.
+use native.Mathlib.Omega.{arith}
+use Rattle.telling.specs.Station.{restText}
+use Rattle.telling.proofs.Buffers.{wrote-two}
 use borrow.Author.Needs.{needs}
 use Rattle.telling.proofs.held.put_rest.Statement.{statement}
 use Rattle.telling.proofs.held.put_rest.Tie as tie
@@ -12,53 +16,58 @@ use Rattle.telling.proofs.lines.clock_line.Reads as clock-line-reads
 use Rattle.telling.proofs.lines.local_line.Reads as local-line-reads
 use Rattle.telling.proofs.pieces.put_line.Reads as put-line-reads
 
--- src/held.rt:192:32
 list-line-requires : tie.Need-list-line-requires
 list-line-requires c κs = search needs
 
--- src/held.rt:192:9
 put-line-requires : tie.Need-put-line-requires
 put-line-requires c κs = search needs
 
--- src/held.rt:193:31
 af-list-requires : tie.Need-af-list-requires
 af-list-requires c κs = search needs
 
--- src/held.rt:193:9
 put-frequencies-requires : tie.Need-put-frequencies-requires
 put-frequencies-requires c κs = search needs
 
--- src/held.rt:194:9
 held-clock-requires : tie.Need-held-clock-requires
 held-clock-requires c κs = search needs
 
--- src/held.rt:195:34
 clock-line-requires : tie.Need-clock-line-requires
 clock-line-requires c κs = search needs
 
--- src/held.rt:195:9
 put-line-requires-2 : tie.Need-put-line-requires-2
 put-line-requires-2 c κs = search needs
 
--- src/held.rt:196:9
 local-date-requires : tie.Need-local-date-requires
 local-date-requires c κs = search needs
 
--- src/held.rt:197:22
 local-line-requires : tie.Need-local-line-requires
 local-line-requires c κs = search needs
 
--- src/held.rt:197:5
 put-line-requires-3 : tie.Need-put-line-requires-3
 put-line-requires-3 c κs = search needs
 
--- src/held.rt:188:1
 same-length : tie.Need-same-length
 same-length c = search needs
 
--- src/held.rt:188:1
 returns : tie.Need-returns
-returns c = ?
+unfolding restText
+returns c =
+    let start = c .before .before .before .before .before .before .before .before .before .before .before .before .before .before .before .before .before .before .before .before .before .before .before in
+    let out = start .args .out .now in
+    let at = start .args .at in
+    let one = rw (c .before .before .before .before .before .before .before .before .before .before .before .before .before .before .before .before .before .before .before .before .before .list-line .ensures) at (c .before .before .before .before .before .before .before .before .before .before .before .before .before .before .before .before .before .before .before .put-line .ensures .0) in
+    let two = rw (c .before .before .before .before .before .before .before .before .before .before .before .before .before .before .before .before .af-list .ensures) at (c .before .before .before .before .before .before .before .before .before .before .before .before .before .before .put-frequencies .ensures .0) in
+    let three = rw (c .before .before .before .before .before .before .before .before .before .before .clock-line .ensures, c .before .before .before .before .before .before .before .before .before .before .before .held-clock .ensures .0) at (c .before .before .before .before .before .before .before .before .put-line2 .ensures .0) in
+    let four = rw (c .before .before .before .before .local-line .ensures, c .before .before .before .before .before .local-date .ensures .0, c .before .before .before .before .before .before .before .before .before .before .before .held-clock .ensures .0) at
+        (c .before .before .put-line3 .ensures .0) in
+    let front = wrote-two out at (omega arith) (wrote-two out at (omega arith) one two) three in
+    (wrote-two out at (omega arith) front four, omega (
+      arith,
+      c .before .before .before .before .before .before .before .before .before .before .before .before .before .before .before .before .before .before .before .put-line .ensures .1,
+      c .before .before .before .before .before .before .before .before .before .before .before .before .before .before .put-frequencies .ensures .1,
+      c .before .before .before .before .before .before .before .before .put-line2 .ensures .1,
+      c .before .before .put-line3 .ensures .1,
+    ))
 
 pub put-rest-spec : {M : Type 1} → statement M
 put-rest-spec =

@@ -1,3 +1,6 @@
+-- `telling::held::put_shown` meets its promise: characters, a word and marks, one behind the other.
+use native.Mathlib.Omega.{arith}
+use Rattle.telling.proofs.Buffers.{wrote-two}
 use borrow.Author.Needs.{needs}
 use Rattle.telling.proofs.held.put_shown.Statement.{statement}
 use Rattle.telling.proofs.held.put_shown.Tie as tie
@@ -8,29 +11,29 @@ use Rattle.telling.proofs.held.put_characters.Reads as put-characters-r
 use Rattle.telling.proofs.held.put_marks.Reads as put-marks-reads
 use Rattle.telling.proofs.pieces.put_line.Reads as put-line-reads
 
--- src/held.rt:135:9
 put-characters-requires : tie.Need-put-characters-requires
 put-characters-requires c κs = search needs
 
--- src/held.rt:136:32
 one-word-requires : tie.Need-one-word-requires
 one-word-requires c κs = search needs
 
--- src/held.rt:136:9
 put-line-requires : tie.Need-put-line-requires
 put-line-requires c κs = search needs
 
--- src/held.rt:137:5
 put-marks-requires : tie.Need-put-marks-requires
 put-marks-requires c κs = search needs
 
--- src/held.rt:130:1
 same-length : tie.Need-same-length
 same-length c = search needs
 
--- src/held.rt:130:1
 returns : tie.Need-returns
-returns c = ?
+returns c =
+    let start = c .before .before .before .before .before .before .before .before .before .before .before .before .before .before .before .before in
+    let two = wrote-two (start .args .out .now) (start .args .at) (omega arith) (c .before .before .before .before .before .before .before .before .before .before .before .put-characters .ensures .0)
+        (rw (c .before .before .before .before .before .before .before .before .one-word .ensures) at (c .before .before .before .before .before .before .put-line .ensures .0)) in (
+      wrote-two (start .args .out .now) (start .args .at) (omega arith) two (c .before .before .put-marks .ensures .0),
+      omega arith,
+    )
 
 pub put-shown-spec : {M : Type 1} → statement M
 put-shown-spec =

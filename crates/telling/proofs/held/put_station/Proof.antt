@@ -1,3 +1,7 @@
+-- `telling::held::put_station` meets its promise: three texts, one behind the other.
+use native.Mathlib.Omega.{arith}
+use Rattle.telling.specs.Station.{stationText}
+use Rattle.telling.proofs.Buffers.{wrote-two}
 use borrow.Author.Needs.{needs}
 use Rattle.telling.proofs.held.put_station.Statement.{statement}
 use Rattle.telling.proofs.held.put_station.Tie as tie
@@ -7,25 +11,24 @@ use Rattle.telling.proofs.held.put_name.Reads as put-name-reads
 use Rattle.telling.proofs.held.put_rest.Reads as put-rest-reads
 use Rattle.telling.proofs.held.put_text.Reads as put-text-reads
 
--- src/held.rt:205:9
 put-name-requires : tie.Need-put-name-requires
 put-name-requires c κs = search needs
 
--- src/held.rt:206:9
 put-text-requires : tie.Need-put-text-requires
 put-text-requires c κs = search needs
 
--- src/held.rt:207:5
 put-rest-requires : tie.Need-put-rest-requires
 put-rest-requires c κs = search needs
 
--- src/held.rt:201:1
 same-length : tie.Need-same-length
 same-length c = search needs
 
--- src/held.rt:201:1
 returns : tie.Need-returns
-returns c = ?
+unfolding stationText
+returns c =
+    let out = c .before .before .before .before .before .before .before .before .before .before .before .before .before .args .out .now in
+    let two = wrote-two out 0 (omega arith) (c .before .before .before .before .before .before .before .before .before .before .put-name .ensures .0) (c .before .before .before .before .before .before .put-text .ensures .0) in
+    (wrote-two out 0 (omega arith) two (c .before .before .put-rest .ensures .0), omega arith)
 
 pub put-station-spec : {M : Type 1} → statement M
 put-station-spec =

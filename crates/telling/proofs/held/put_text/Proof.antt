@@ -1,3 +1,7 @@
+-- `telling::held::put_text` meets its promise: a line of pieces, and characters with their marks behind it.
+use native.Mathlib.Omega.{arith}
+use Rattle.telling.specs.Station.{textText}
+use Rattle.telling.proofs.Buffers.{wrote-two}
 use borrow.Author.Needs.{needs}
 use Rattle.telling.proofs.held.put_text.Statement.{statement}
 use Rattle.telling.proofs.held.put_text.Tie as tie
@@ -9,41 +13,37 @@ use Rattle.telling.proofs.held.one_word.Reads as one-word-reads
 use Rattle.telling.proofs.held.put_shown.Reads as put-shown-reads
 use Rattle.telling.proofs.pieces.put_line.Reads as put-line-reads
 
--- src/held.rt:156:33
 one-word-requires : tie.Need-one-word-requires
 one-word-requires c κs = search needs
 
--- src/held.rt:156:9
 put-line-requires : tie.Need-put-line-requires
 put-line-requires c κs = search needs
 
--- src/held.rt:157:22
 text-characters-requires : tie.Need-text-characters-requires
 text-characters-requires c κs = search needs
 
--- src/held.rt:158:16
 text-seen-requires : tie.Need-text-seen-requires
 text-seen-requires c κs = search needs
 
--- src/held.rt:159:15
 slice-aggregate-put-shown : tie.Need-slice-aggregate-put-shown
 slice-aggregate-put-shown c = search needs
 
--- src/held.rt:159:28
 slice-aggregate-put-shown-2 : tie.Need-slice-aggregate-put-shown-2
 slice-aggregate-put-shown-2 c = search needs
 
--- src/held.rt:159:5
 put-shown-requires : tie.Need-put-shown-requires
 put-shown-requires c κs = search needs
 
--- src/held.rt:152:1
 same-length : tie.Need-same-length
 same-length c = search needs
 
--- src/held.rt:152:1
 returns : tie.Need-returns
-returns c = ?
+unfolding textText
+returns c =
+    let start = c .before .before .before .before .before .before .before .before .before .before .before .before .before .before in
+    let line = rw (c .before .before .before .before .before .before .before .before .before .before .before .before .one-word .ensures) at (c .before .before .before .before .before .before .before .before .before .before .put-line .ensures .0) in
+    let shown = rw (c .before .before .before .before .before .before .before .text-characters .ensures, c .before .before .before .before .before .before .text-seen .ensures) at (c .before .before .put-shown .ensures .0) in
+    (wrote-two (start .args .out .now) (start .args .at) (omega arith) line shown, omega arith)
 
 pub put-text-spec : {M : Type 1} → statement M
 put-text-spec =
