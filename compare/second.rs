@@ -11,6 +11,7 @@ pub mod encoder;
 pub mod frequencies;
 pub mod groups;
 pub mod keys;
+pub mod listen;
 pub mod marker;
 pub mod program;
 pub mod receiver;

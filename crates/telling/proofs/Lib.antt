@@ -3,3 +3,5 @@ pub mod Buffers
 pub mod Digits
 pub mod Sizes
 pub mod Handing
+pub mod Exactly
+pub mod Spelling

@@ -1,0 +1,4 @@
+// The program `listen`, and its run on a clean recording.
+fn main() {
+    listening::listen();
+}

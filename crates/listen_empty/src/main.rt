@@ -1,0 +1,4 @@
+// The program `listen` on an empty recording.
+fn main() {
+    listening::listen();
+}

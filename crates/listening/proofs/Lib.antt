@@ -1,0 +1,2 @@
+-- The laws of the library of `listen`.
+pub mod Rounds

@@ -1,0 +1,37 @@
+-- `listening::bit_number` meets its promise: sums that go round add up to the whole sum, gone round once.
+use Rattle.listening.proofs.Rounds.{bit-before}
+use native.Mathlib.Omega.{arith}
+use borrow.Author.Needs.{needs}
+use Rattle.listening.proofs.bit_number.Statement.{statement}
+use Rattle.listening.proofs.bit_number.Tie as tie
+use Rattle.listening.proofs.bit_number.Reads as reads
+use Rattle.listening.proofs.bit_number.Lts as lts
+use Rattle.std.proofs.num.wrapping_add_u64.Reads as wrapping-add-u64-reads
+use Rattle.std.proofs.num.wrapping_sub_u64.Reads as wrapping-sub-u64-reads
+
+mul-whole : tie.Need-mul-whole
+mul-whole c = search needs
+
+wrapping-add-u64-requires : tie.Need-wrapping-add-u64-requires
+wrapping-add-u64-requires c κs = search needs
+
+wrapping-add-u64-requires-2 : tie.Need-wrapping-add-u64-requires-2
+wrapping-add-u64-requires-2 c κs = search needs
+
+wrapping-sub-u64-requires : tie.Need-wrapping-sub-u64-requires
+wrapping-sub-u64-requires c κs = search needs
+
+returns : tie.Need-returns
+returns c =
+    bit-before (c .before .before .before .args .before) (c .before .before .before .args .byte) (c .before .before .before .args .bit) _ _ _ (omega arith)
+    (c .before .before .wrapping-add-u64 .ensures) (c .before .wrapping-add-u642 .ensures) (c .wrapping-sub-u64 .ensures)
+
+pub bit-number-spec : {M : Type 1} → statement M
+bit-number-spec =
+    tie.close
+    (tie.spec
+    mul-whole
+    wrapping-add-u64-requires
+    wrapping-add-u64-requires-2
+    wrapping-sub-u64-requires
+    returns)

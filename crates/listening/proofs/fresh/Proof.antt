@@ -1,0 +1,24 @@
+-- `listening::fresh` meets its promise: each part is the fresh one.
+use borrow.Author.Needs.{needs}
+use Rattle.listening.proofs.fresh.Statement.{statement}
+use Rattle.listening.proofs.fresh.Tie as tie
+use Rattle.listening.proofs.fresh.Reads as reads
+use Rattle.listening.proofs.fresh.Lts as lts
+use Rattle.receiver.proofs.Receiver.new.Reads as new-reads
+use Rattle.station.proofs.fresh.Reads as fresh-reads
+use Rattle.telling.proofs.totals.none.Reads as none-reads
+
+new-requires : tie.Need-new-requires
+new-requires c κs = search needs
+
+fresh-requires : tie.Need-fresh-requires
+fresh-requires c κs = search needs
+
+none-requires : tie.Need-none-requires
+none-requires c κs = search needs
+
+returns : tie.Need-returns
+returns c = rw (c .before .before .new .ensures, c .before .fresh .ensures, c .none .ensures)
+
+pub fresh-spec : {M : Type 1} → statement M
+fresh-spec = tie.close (tie.spec new-requires fresh-requires none-requires returns)

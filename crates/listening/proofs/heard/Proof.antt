@@ -1,0 +1,20 @@
+-- `listening::heard` meets its promise: each part is what its function promises.
+use borrow.Author.Needs.{needs}
+use Rattle.listening.proofs.heard.Statement.{statement}
+use Rattle.listening.proofs.heard.Tie as tie
+use Rattle.listening.proofs.heard.Reads as reads
+use Rattle.listening.proofs.heard.Lts as lts
+use Rattle.station.proofs.updated.Reads as updated-reads
+use Rattle.telling.proofs.totals.counted.Reads as counted-reads
+
+updated-requires : tie.Need-updated-requires
+updated-requires c κs = search needs
+
+counted-requires : tie.Need-counted-requires
+counted-requires c κs = search needs
+
+returns : tie.Need-returns
+returns c = rw (c .before .updated .ensures, c .counted .ensures)
+
+pub heard-spec : {M : Type 1} → statement M
+heard-spec = tie.close (tie.spec updated-requires counted-requires returns)

@@ -1,0 +1,2 @@
+-- What the library of the program `listen` means.
+pub mod Ear
