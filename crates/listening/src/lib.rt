@@ -136,7 +136,12 @@ fn write_taken(ear: Ear, taken: Advanced, before: u64, short: bool) {
     let answer = taken.answer;
     let group = taken.group;
     let counts = ear.counts;
-    write_answer(answer, group, counts.groups, bit_number(before, taken.byte, taken.bit));
+    write_answer(
+        answer,
+        group,
+        counts.groups,
+        bit_number(before, taken.byte, taken.bit),
+    );
 }
 
 // Feeds a piece of a recording. Each turn feeds a bit at least, so there are no more turns than bits.

@@ -308,7 +308,12 @@ fn content_line(content: Content, held: Held) -> Line
             address,
             af,
             pair,
-        } => name_with_af(address, pair, groups::fields::first(af), groups::fields::second(af)),
+        } => name_with_af(
+            address,
+            pair,
+            groups::fields::first(af),
+            groups::fields::second(af),
+        ),
         Content::Name0B {
             switches: _,
             address,

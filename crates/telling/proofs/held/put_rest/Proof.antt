@@ -59,15 +59,17 @@ returns c =
     let two = rw (c .before .before .before .before .before .before .before .before .before .before .before .before .before .before .before .before .af-list .ensures) at (c .before .before .before .before .before .before .before .before .before .before .before .before .before .before .put-frequencies .ensures .0) in
     let three = rw (c .before .before .before .before .before .before .before .before .before .before .clock-line .ensures, c .before .before .before .before .before .before .before .before .before .before .before .held-clock .ensures .0) at (c .before .before .before .before .before .before .before .before .put-line2 .ensures .0) in
     let four = rw (c .before .before .before .before .local-line .ensures, c .before .before .before .before .before .local-date .ensures .0, c .before .before .before .before .before .before .before .before .before .before .before .held-clock .ensures .0) at
-        (c .before .before .put-line3 .ensures .0) in
-    let front = wrote-two out at (omega arith) (wrote-two out at (omega arith) one two) three in
-    (wrote-two out at (omega arith) front four, omega (
-      arith,
-      c .before .before .before .before .before .before .before .before .before .before .before .before .before .before .before .before .before .before .before .put-line .ensures .1,
-      c .before .before .before .before .before .before .before .before .before .before .before .before .before .before .put-frequencies .ensures .1,
-      c .before .before .before .before .before .before .before .before .put-line2 .ensures .1,
-      c .before .before .put-line3 .ensures .1,
-    ))
+    (c .before .before .put-line3 .ensures .0) in
+    let front = wrote-two out at (omega arith) (wrote-two out at (omega arith) one two) three in (
+      wrote-two out at (omega arith) front four,
+      omega (
+        arith,
+        c .before .before .before .before .before .before .before .before .before .before .before .before .before .before .before .before .before .before .before .put-line .ensures .1,
+        c .before .before .before .before .before .before .before .before .before .before .before .before .before .before .put-frequencies .ensures .1,
+        c .before .before .before .before .before .before .before .before .put-line2 .ensures .1,
+        c .before .before .put-line3 .ensures .1,
+      ),
+    )
 
 pub put-rest-spec : {M : Type 1} → statement M
 put-rest-spec =

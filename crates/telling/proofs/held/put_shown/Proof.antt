@@ -30,7 +30,7 @@ returns : tie.Need-returns
 returns c =
     let start = c .before .before .before .before .before .before .before .before .before .before .before .before .before .before .before .before in
     let two = wrote-two (start .args .out .now) (start .args .at) (omega arith) (c .before .before .before .before .before .before .before .before .before .before .before .put-characters .ensures .0)
-        (rw (c .before .before .before .before .before .before .before .before .one-word .ensures) at (c .before .before .before .before .before .before .put-line .ensures .0)) in (
+    (rw (c .before .before .before .before .before .before .before .before .one-word .ensures) at (c .before .before .before .before .before .before .put-line .ensures .0)) in (
       wrote-two (start .args .out .now) (start .args .at) (omega arith) two (c .before .before .put-marks .ensures .0),
       omega arith,
     )

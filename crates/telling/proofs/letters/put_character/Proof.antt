@@ -41,7 +41,7 @@ unfolding characterText
 returns-2 c =
     let start = c .before .before .before .before .before .before .before .before .before .before .before .before .before .before .before in
     let front = wrote-two (start .args .out .now) (start .args .at) (omega arith) (c .before .before .before .before .before .before .before .before .before .before .put-byte2 .ensures)
-        (c .before .before .before .before .before .before .put-byte3 .ensures) in
+    (c .before .before .before .before .before .before .put-byte3 .ensures) in
     rw (← c .before .before .before .before .before .before .before .before .before .before .before .before .before .is-shown .ensures, c .before .before .before .before .before .before .before .before .before .before .before .before .if1 .left)
     (wrote-two (start .args .out .now) (start .args .at) (omega arith) front (c .before .before .put-two .ensures))
 
