@@ -1,4 +1,5 @@
-//! The program `listen`, by the second implementation: a recording on standard input, its lines out; `-s` the summary alone.
+//! The program `listen`, by the second implementation: a recording on standard input, its lines out; with `-s` the
+//! summary alone.
 
 #[allow(dead_code)]
 mod second;

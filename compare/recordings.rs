@@ -1,5 +1,5 @@
-//! Writes the stored runs of the program `listen`: `recordings CRATESFOLDER`, and `recordings FILE SEED` a recording drawn at
-//! random.
+//! Writes the stored runs of the program `listen`: `recordings CRATESFOLDER`; and `recordings FILE SEED` writes a
+//! recording drawn at random.
 //!
 //! For each run the folder of its crate gets the recording as `stdin` and what must be written as `stdout`.
 

@@ -45,7 +45,8 @@ fn loses(answer: &Answer) -> bool {
 }
 
 fn group_line(number: usize, group: &Group) -> String {
-    let word = |place: usize| if group.good[place] { format!("{:04X}", group.words[place]) } else { "----".to_string() };
+    let bad = "----".to_string();
+    let word = |place: usize| if group.good[place] { format!("{:04X}", group.words[place]) } else { bad.clone() };
     let words = [0, 1, 2, 3].map(word).join(" ");
     let carried = if group.good == [true; 4] { carried(group) } else { String::new() };
     format!("group {number} {} {words}{carried}\n", kind(group))

@@ -24,4 +24,5 @@ pub bit-before : (before byte bit first second r : ℕ) → r < 2 ^ 64 → first
     → r ≡ (before + 8 * byte + bit + (2 ^ 64 - 1)) % 2 ^ 64
 bit-before before byte bit first second r h one two three =
     less r (before + 8 * byte + bit) h
-    (three ∙ two ∙ sum-left first bit (before + 8 * byte) (one ∙ sum before (byte % 2 ^ 61 * 8) (8 * byte) (eight byte)))
+    (three ∙ two ∙ sum-left first bit (before + 8 * byte) (one ∙ sum before (byte % 2 ^ 61 * 8) (8 * byte)
+    (eight byte)))

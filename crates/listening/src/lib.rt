@@ -1,5 +1,5 @@
-// The program `listen`: reads a recording from standard input, in pieces of at most 64 KiB, feeds it to the receiver, and
-// writes what comes, line by line, and at the end the station record and the counts.
+// The program `listen`: reads a recording from standard input, in pieces of at most 64 KiB, feeds it to the receiver,
+// and writes what comes, line by line, and at the end the station record and the counts.
 ghost use mathlib.Core.Path.{_≡_};
 ghost use Prim.Native.Nat.{_+_, _*_, _-_, _%_, _^_};
 ghost use Rattle.io.specs.Counts.{Counts as Counted};

@@ -64,7 +64,14 @@ module _ (out : List ℕ) (at : ℕ) where
   -- one character
   pub wrote-byte : (byte : ℕ) → at < length out → Wrote out at (byte ∷ []) (set out at byte) (at + 1)
   unfolding written
-  wrote-byte byte h = record { over = set-split out at byte h ∙ sym (rw (add-one, append-snoc (take at out) byte (drop (suc at) out))); to = refl }
+  wrote-byte byte h = record {
+    over = set-split out at byte h ∙ sym (rw (
+      add-one,
+      append-snoc (take at out) byte
+          (drop (suc at) out),
+    ));
+    to = refl;
+  }
 
 -- ---- a loop that writes the text of each element of a list
 

@@ -1,5 +1,5 @@
--- Digits: a number of two digits or more is what stands before its last digit, with one digit more; and how many digits a
--- u64 has.
+-- Digits: a number of two digits or more is what stands before its last digit, with one digit more; and how many digits
+-- a number has at most.
 use Prim.Native.Nat.{ℕ, zero, suc, _+_, _*_, _/_, _%_, _^_, _<_, _≤_}
 use mathlib.Core.Path.{_≡_, refl, sym, ap, _∙_}
 use mathlib.Core.List.{List, [], _∷_, _++_}
@@ -36,7 +36,8 @@ module _ (base nought : ℕ) (many : 1 < base) where
   unfolding digitsOf digitsIn
   digits-small n h = rw (lt-ltb n base h)
 
-  pub digits-large : (n : ℕ) → base ≤ n → digitsOf base nought n ≡ digitsOf base nought (n / base) ++ (nought + n % base) ∷ []
+  pub digits-large : (n : ℕ) → base ≤ n → digitsOf base nought n ≡ digitsOf base nought (n / base) ++
+      (nought + n % base) ∷ []
   unfolding digitsOf digitsIn
   digits-large n h = rw (le-ltb n base h) (ap (λ (l : List ℕ). l ++ (nought + n % base) ∷ [])
       (same-digits n (suc (n / base)) (n / base) (before-last n h) (omega arith)))

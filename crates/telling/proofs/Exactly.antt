@@ -1,5 +1,5 @@
--- What a telling promises settles all: the refusal comes exactly if the buffer is shorter than the text and leaves it as it
--- was, and no second answer would do.
+-- What a telling promises settles all: the refusal comes exactly if the buffer is shorter than the text and leaves it
+-- as it was, and no second answer would do.
 use Prim.Native.Nat.{ℕ, _<_}
 use mathlib.Core.Path.{_≡_, refl, sym, _∙_}
 use mathlib.Core.List.{List}
@@ -22,7 +22,8 @@ pub eight-only : {text out after : List ℕ} {answer : Told} → Tells text out 
 unfolding tooShort
 eight-only {text} {out} tells e = by-test (ltb (length out) (length text)) refl (sym (tells .numbered) ∙ e)
   where
-    by-test : (test : Bool) → ltb (length out) (length text) ≡ test → _≡_ {A = ℕ} (cond test 8 0) 8 → length out < length text
+    by-test : (test : Bool) → ltb (length out) (length text) ≡ test → _≡_ {A = ℕ} (cond test 8 0) 8
+        → length out < length text
     by-test true t e = ltb-true (length out) (length text) t
     by-test false t e = absurd (omega arith)
 

@@ -1,5 +1,5 @@
--- Handing a text over: it is refused exactly if the buffer is shorter, and a text at the front of our own buffer is what
--- stands there up to its end.
+-- Handing a text over: it is refused exactly if the buffer is shorter, and a text at the front of our own buffer is
+-- what stands there up to its end.
 use Prim.Native.Nat.{ℕ, _+_, _<_, _≤_}
 use mathlib.Core.Path.{_≡_, refl, sym, ap, _∙_}
 use mathlib.Core.List.{List, [], _∷_, _++_}

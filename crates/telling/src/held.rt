@@ -129,8 +129,8 @@ fn put_marks(seen: &[bool], out: &mut [u8], at: usize) -> usize
 // Characters, and the marks of their pairs.
 fn put_shown(characters: &[u8], seen: &[bool], out: &mut [u8], at: usize) -> usize
     requires { ⌜ at + 4 * length (now characters) + length (now seen) + 320 ≤ length (now out) ⌝ }
-    ensures { λ r. ⌜ Wrote (now (out .entry)) at (shownText (now (characters .entry)) (now (seen .entry))) (now (out .exit)) r
-        × (r ≤ at + 4 * length (now (characters .entry)) + length (now (seen .entry)) + 320) ⌝ }
+    ensures { λ r. ⌜ Wrote (now (out .entry)) at (shownText (now (characters .entry)) (now (seen .entry)))
+        (now (out .exit)) r × (r ≤ at + 4 * length (now (characters .entry)) + length (now (seen .entry)) + 320) ⌝ }
 {
     let one = put_characters(characters, out, at);
     let two = pieces::put_line(one_word(words::SEEN), out, one);

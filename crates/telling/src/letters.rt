@@ -1,9 +1,11 @@
-// Characters into a buffer that has room for them from byte `at` on: each function answers the place behind what it wrote.
+// Characters into a buffer that has room for them from byte `at` on: each function answers the place behind what it
+// wrote.
 ghost use mathlib.Core.Path.{_≡_};
 ghost use mathlib.Core.List.{[], _∷_};
 ghost use Prim.Native.Nat.{_+_, _<_, _≤_};
 ghost use lib.ListN.{length};
-ghost use Rattle.telling.specs.Letters.{Wrote, hexDigit, hexTwo, hexFour, lastTwo, digitsOf, decimalOf, lettersOf};
+ghost use Rattle.telling.specs.Letters.{Wrote, hexDigit, hexTwo, hexFour, lastTwo};
+ghost use Rattle.telling.specs.Letters.{digitsOf, decimalOf, lettersOf};
 ghost use Rattle.telling.specs.Letters.{isShown, characterText};
 
 // The digit 0, and the letter ten places before A.

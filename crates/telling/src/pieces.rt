@@ -6,8 +6,8 @@ ghost use Rattle.telling.specs.Letters.{Wrote};
 ghost use Rattle.telling.specs.Pieces.{pieceText, lineText};
 use crate::letters;
 
-// A piece: a word by the number that its letters spell, a number in decimal, the last two digits of one, a word of a group in
-// hexadecimal, a character, or nothing.
+// A piece: a word by the number that its letters spell, a number in decimal, the last two digits of one, a word of a
+// group in hexadecimal, a character, or nothing.
 pub enum Piece {
     Word(u64),
     Number(u64),

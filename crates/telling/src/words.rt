@@ -1,5 +1,5 @@
-// The words of the lines, with the spaces, line ends and quotes that belong to them: each is the number that its letters spell in
-// base 256, the first letter highest.
+// The words of the lines, with the spaces, line ends and quotes that belong to them: each is the number that its
+// letters spell in base 256, the first letter highest.
 
 // "group "
 pub const GROUP: u64 = 0x67726F757020;

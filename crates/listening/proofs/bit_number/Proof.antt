@@ -23,8 +23,10 @@ wrapping-sub-u64-requires c κs = search needs
 
 returns : tie.Need-returns
 returns c =
-    bit-before (c .before .before .before .args .before) (c .before .before .before .args .byte) (c .before .before .before .args .bit) _ _ _ (omega arith)
-    (c .before .before .wrapping-add-u64 .ensures) (c .before .wrapping-add-u642 .ensures) (c .wrapping-sub-u64 .ensures)
+    bit-before (c .before .before .before .args .before) (c .before .before .before .args .byte)
+    (c .before .before .before .args .bit) _ _ _ (omega arith)
+    (c .before .before .wrapping-add-u64 .ensures) (c .before .wrapping-add-u642 .ensures)
+    (c .wrapping-sub-u64 .ensures)
 
 pub bit-number-spec : {M : Type 1} → statement M
 bit-number-spec =

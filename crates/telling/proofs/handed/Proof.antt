@@ -9,7 +9,8 @@ use Rattle.telling.proofs.handed.Lts as lts
 use Rattle.telling.proofs.letters.put_bytes.Reads as put-bytes-reads
 
 returns : tie.Need-returns
-returns c = tells-short (c .before .before .before .args .text .now) (c .before .before .before .args .out .now) (omega arith)
+returns c =
+    tells-short (c .before .before .before .args .text .now) (c .before .before .before .args .out .now) (omega arith)
 
 put-bytes-requires : tie.Need-put-bytes-requires
 put-bytes-requires c κs = search needs
@@ -19,7 +20,9 @@ same-length c = search needs
 
 returns-2 : tie.Need-returns-2
 returns-2 c =
-    tells-written (c .before .before .before .before .before .before .before .args .text .now) (c .before .before .before .before .before .before .before .args .out .now) (omega arith) (c .before .before .put-bytes .ensures)
+    tells-written (c .before .before .before .before .before .before .before .args .text .now)
+    (c .before .before .before .before .before .before .before .args .out .now) (omega arith)
+    (c .before .before .put-bytes .ensures)
 
 pub handed-spec : {M : Type 1} → statement M
 handed-spec = tie.close (tie.spec returns put-bytes-requires same-length returns-2)

@@ -31,7 +31,10 @@ same-length : tie.Need-same-length
 same-length c = search needs
 
 returns : tie.Need-returns
-returns c = tells-front (c .before .before .before .before .before .before .put-line .ensures .0) (c .before .before .before .before .before .before .before .before .lost .ensures) (c .before .before .handed .ensures)
+returns c =
+    tells-front (c .before .before .before .before .before .before .put-line .ensures .0)
+    (c .before .before .before .before .before .before .before .before .lost .ensures)
+    (c .before .before .handed .ensures)
 
 pub lost-spec : {M : Type 1} → statement M
 lost-spec =

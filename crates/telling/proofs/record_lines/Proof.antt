@@ -28,7 +28,9 @@ same-length : tie.Need-same-length
 same-length c = search needs
 
 returns : tie.Need-returns
-returns c = tells-front (c .before .before .before .before .before .before .put-station .ensures .0) refl (c .before .before .handed .ensures)
+returns c =
+    tells-front (c .before .before .before .before .before .before .put-station .ensures .0) refl
+    (c .before .before .handed .ensures)
 
 pub record-lines-spec : {M : Type 1} → statement M
 record-lines-spec =

@@ -32,7 +32,13 @@ cast-count c = search needs
 loop-holds : tie.Need-loop-holds Inv-loop μ-loop
 unfolding frequenciesTo
 loop-holds c =
-    let start = c .before .before in (omega arith, omega arith, refl, wrote-none (start .args .out .now) (start .args .at))
+    let start = c .before .before in (
+      omega arith,
+      omega arith,
+      refl,
+      wrote-none (start .args .out .now)
+          (start .args .at),
+    )
 
 at-requires : tie.Need-at-requires Inv-loop μ-loop
 at-requires c κs = search needs

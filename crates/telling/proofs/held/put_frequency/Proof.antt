@@ -21,7 +21,8 @@ same-length c = search needs
 returns : tie.Need-returns
 returns c =
     let start = c .before .before .before .before .before .before .before .before .before in (
-      wrote-two (start .args .out .now) (start .args .at) (omega arith) (c .before .before .before .before .before .before .put-byte .ensures)
+      wrote-two (start .args .out .now) (start .args .at) (omega arith)
+          (c .before .before .before .before .before .before .put-byte .ensures)
           (c .before .before .put-number .ensures .0),
       omega arith,
     )

@@ -53,7 +53,8 @@ loop-again c =
       omega arith,
       search needs,
       turn-next markText (start .args .seen .now) (start .args .out .now) (start .args .at) false (omega arith)
-          (omega arith) (turn .inv .3) (rw (c .before .before .before .before .mark .ensures) at (c .before .before .put-byte .ensures)),
+          (omega arith) (turn .inv .3) (rw (c .before .before .before .before .mark .ensures) at
+          (c .before .before .put-byte .ensures)),
     )
 
 same-length : tie.Need-same-length Inv-loop μ-loop

@@ -39,11 +39,16 @@ same-length c = search needs
 
 returns : tie.Need-returns
 unfolding nameText
-returns c =
-    let start = c .before .before .before .before .before .before .before .before .before .before .before .before .before .before in
-    let line = rw (c .before .before .before .before .before .before .before .before .before .before .before .before .station-line .ensures) at (c .before .before .before .before .before .before .before .before .before .before .put-line .ensures .0) in
-    let shown = rw (c .before .before .before .before .before .before .before .name-characters .ensures, c .before .before .before .before .before .before .name-seen .ensures) at (c .before .before .put-shown .ensures .0) in
-    (wrote-two (start .args .out .now) (start .args .at) (omega arith) line shown, omega arith)
+returns c = (
+  let far = c .before .before .before .before .before .before .before .before .before .before in
+      let start = far .before .before .before .before in
+      let line = rw (far .before .before .station-line .ensures) at (far .put-line .ensures .0) in
+      let seen = c .before .before .before .before .before .before .name-seen .ensures in
+      let shown = rw (c .before .before .before .before .before .before .before .name-characters .ensures, seen) at
+      (c .before .before .put-shown .ensures .0) in
+      wrote-two (start .args .out .now) (start .args .at) (omega arith) line shown,
+  omega arith,
+)
 
 pub put-name-spec : {M : Type 1} → statement M
 put-name-spec =

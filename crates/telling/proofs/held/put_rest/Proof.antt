@@ -52,20 +52,29 @@ same-length c = search needs
 returns : tie.Need-returns
 unfolding restText
 returns c =
-    let start = c .before .before .before .before .before .before .before .before .before .before .before .before .before .before .before .before .before .before .before .before .before .before .before in
+    let far = c .before .before .before .before .before .before .before .before .before .before in
+    let farther = far .before .before .before .before .before .before .before .before .before .before in
+    let start = farther .before .before .before in
     let out = start .args .out .now in
     let at = start .args .at in
-    let one = rw (c .before .before .before .before .before .before .before .before .before .before .before .before .before .before .before .before .before .before .before .before .before .list-line .ensures) at (c .before .before .before .before .before .before .before .before .before .before .before .before .before .before .before .before .before .before .before .put-line .ensures .0) in
-    let two = rw (c .before .before .before .before .before .before .before .before .before .before .before .before .before .before .before .before .af-list .ensures) at (c .before .before .before .before .before .before .before .before .before .before .before .before .before .before .put-frequencies .ensures .0) in
-    let three = rw (c .before .before .before .before .before .before .before .before .before .before .clock-line .ensures, c .before .before .before .before .before .before .before .before .before .before .before .held-clock .ensures .0) at (c .before .before .before .before .before .before .before .before .put-line2 .ensures .0) in
-    let four = rw (c .before .before .before .before .local-line .ensures, c .before .before .before .before .before .local-date .ensures .0, c .before .before .before .before .before .before .before .before .before .before .before .held-clock .ensures .0) at
+    let one = rw (farther .before .list-line .ensures) at
+    (far .before .before .before .before .before .before .before .before .before .put-line .ensures .0) in
+    let two = rw (far .before .before .before .before .before .before .af-list .ensures) at
+    (far .before .before .before .before .put-frequencies .ensures .0) in
+    let three = rw (far .clock-line .ensures, far .before .held-clock .ensures .0) at
+    (c .before .before .before .before .before .before .before .before .put-line2 .ensures .0) in
+    let four = rw (
+      c .before .before .before .before .local-line .ensures,
+      c .before .before .before .before .before .local-date .ensures .0,
+      far .before .held-clock .ensures .0,
+    ) at
     (c .before .before .put-line3 .ensures .0) in
     let front = wrote-two out at (omega arith) (wrote-two out at (omega arith) one two) three in (
       wrote-two out at (omega arith) front four,
       omega (
         arith,
-        c .before .before .before .before .before .before .before .before .before .before .before .before .before .before .before .before .before .before .before .put-line .ensures .1,
-        c .before .before .before .before .before .before .before .before .before .before .before .before .before .before .put-frequencies .ensures .1,
+        far .before .before .before .before .before .before .before .before .before .put-line .ensures .1,
+        far .before .before .before .before .put-frequencies .ensures .1,
         c .before .before .before .before .before .before .before .before .put-line2 .ensures .1,
         c .before .before .put-line3 .ensures .1,
       ),

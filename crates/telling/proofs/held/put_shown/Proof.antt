@@ -28,9 +28,12 @@ same-length c = search needs
 
 returns : tie.Need-returns
 returns c =
-    let start = c .before .before .before .before .before .before .before .before .before .before .before .before .before .before .before .before in
-    let two = wrote-two (start .args .out .now) (start .args .at) (omega arith) (c .before .before .before .before .before .before .before .before .before .before .before .put-characters .ensures .0)
-    (rw (c .before .before .before .before .before .before .before .before .one-word .ensures) at (c .before .before .before .before .before .before .put-line .ensures .0)) in (
+    let far = c .before .before .before .before .before .before .before .before .before .before in
+    let start = far .before .before .before .before .before .before in
+    let two = wrote-two (start .args .out .now) (start .args .at) (omega arith)
+    (far .before .put-characters .ensures .0)
+    (rw (c .before .before .before .before .before .before .before .before .one-word .ensures) at
+    (c .before .before .before .before .before .before .put-line .ensures .0)) in (
       wrote-two (start .args .out .now) (start .args .at) (omega arith) two (c .before .before .put-marks .ensures .0),
       omega arith,
     )

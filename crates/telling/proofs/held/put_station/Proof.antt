@@ -26,8 +26,10 @@ same-length c = search needs
 returns : tie.Need-returns
 unfolding stationText
 returns c =
-    let out = c .before .before .before .before .before .before .before .before .before .before .before .before .before .args .out .now in
-    let two = wrote-two out 0 (omega arith) (c .before .before .before .before .before .before .before .before .before .before .put-name .ensures .0) (c .before .before .before .before .before .before .put-text .ensures .0) in
+    let far = c .before .before .before .before .before .before .before .before .before .before in
+    let out = far .before .before .before .args .out .now in
+    let two = wrote-two out 0 (omega arith) (far .put-name .ensures .0)
+    (c .before .before .before .before .before .before .put-text .ensures .0) in
     (wrote-two out 0 (omega arith) two (c .before .before .put-rest .ensures .0), omega arith)
 
 pub put-station-spec : {M : Type 1} → statement M

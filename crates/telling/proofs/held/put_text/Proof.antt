@@ -39,11 +39,16 @@ same-length c = search needs
 
 returns : tie.Need-returns
 unfolding textText
-returns c =
-    let start = c .before .before .before .before .before .before .before .before .before .before .before .before .before .before in
-    let line = rw (c .before .before .before .before .before .before .before .before .before .before .before .before .one-word .ensures) at (c .before .before .before .before .before .before .before .before .before .before .put-line .ensures .0) in
-    let shown = rw (c .before .before .before .before .before .before .before .text-characters .ensures, c .before .before .before .before .before .before .text-seen .ensures) at (c .before .before .put-shown .ensures .0) in
-    (wrote-two (start .args .out .now) (start .args .at) (omega arith) line shown, omega arith)
+returns c = (
+  let far = c .before .before .before .before .before .before .before .before .before .before in
+      let start = far .before .before .before .before in
+      let line = rw (far .before .before .one-word .ensures) at (far .put-line .ensures .0) in
+      let seen = c .before .before .before .before .before .before .text-seen .ensures in
+      let shown = rw (c .before .before .before .before .before .before .before .text-characters .ensures, seen) at
+      (c .before .before .put-shown .ensures .0) in
+      wrote-two (start .args .out .now) (start .args .at) (omega arith) line shown,
+  omega arith,
+)
 
 pub put-text-spec : {M : Type 1} → statement M
 put-text-spec =

@@ -51,7 +51,13 @@ array-set-from-line-7 c = search needs
 
 returns : tie.Need-returns
 returns c =
-    rw (c .before .before .before .pi-piece .ensures, c .before .before .before .before .pi .ensures .0, c .before .before .pty .ensures, c .bit .ensures, c .before .tp .ensures)
+    rw (
+      c .before .before .before .pi-piece .ensures,
+      c .before .before .before .before .pi .ensures .0,
+      c .before .before .pty .ensures,
+      c .bit .ensures,
+      c .before .tp .ensures,
+    )
 
 pub station-line-spec : {M : Type 1} → statement M
 station-line-spec =

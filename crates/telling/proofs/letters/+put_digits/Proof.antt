@@ -49,7 +49,11 @@ put-digits-put-byte-requires : (t : ℕ) → put-digits-lts.Need-put-byte-requir
 ) (put-digits-at t) put-digits.Post
 put-digits-put-byte-requires t c κs =
     let start = c .before .before .before in
-    omega (arith, count-small (start .args .base) (start .args .nought) (omega arith) (start .args .number) (omega arith))
+    omega (
+      arith,
+      count-small (start .args .base) (start .args .nought) (omega arith) (start .args .number)
+          (omega arith),
+    )
 
 put-digits-same-length : (t : ℕ) → put-digits-lts.Need-same-length (
   put-byte-reads.Asked,
@@ -87,7 +91,8 @@ put-digits-put-digits-requires : (t : ℕ) → put-digits-lts.Need-put-digits-re
 put-digits-put-digits-requires t c κs =
     let start = c .before .before .before in
     let less = div-lt-self {n = start .args .number} {k = start .args .base} (omega arith) (omega arith) in
-    let count = count-large (start .args .base) (start .args .nought) (omega arith) (start .args .number) (omega arith) in
+    let count = count-large (start .args .base) (start .args .nought) (omega arith) (start .args .number)
+    (omega arith) in
     (omega arith, (omega arith, omega arith, omega arith))
 
 put-digits-rem-put-byte : (t : ℕ) → put-digits-lts.Need-rem-put-byte (
@@ -128,7 +133,11 @@ put-digits-put-byte-requires-2 t c κs =
     let start = c .before .before .before .before .before .before .before in
     let end = c .before .before .before .put-digits .ensures .to in
     let same = c .before .before .before .put-digits .kept .0 in
-    omega (arith, count-large (start .args .base) (start .args .nought) (omega arith) (start .args .number) (omega arith))
+    omega (
+      arith,
+      count-large (start .args .base) (start .args .nought) (omega arith) (start .args .number)
+          (omega arith),
+    )
 
 put-digits-same-length-2 : (t : ℕ) → put-digits-lts.Need-same-length-2 (
   put-byte-reads.Asked,
@@ -147,7 +156,8 @@ put-digits-returns-2 : (t : ℕ) → put-digits-lts.Need-returns-2 (
 put-digits-returns-2 t c =
     let start = c .before .before .before .before .before .before .before .before .before .before in
     rw (digits-large (start .args .base) (start .args .nought) (omega arith) (start .args .number) (omega arith))
-    (wrote-two (start .args .out .now) (start .args .at) (omega arith) (c .before .before .before .before .before .before .put-digits .ensures)
+    (wrote-two (start .args .out .now) (start .args .at) (omega arith)
+    (c .before .before .before .before .before .before .put-digits .ensures)
     (c .before .before .put-byte2 .ensures))
 
 pub +put-digits-spec : {M : Type 1} → statement M

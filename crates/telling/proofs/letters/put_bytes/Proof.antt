@@ -31,7 +31,8 @@ slice-write-out : tie.Need-slice-write-out Inv-loop μ-loop
 slice-write-out c =
     let start = c .before .before .before in
     let same : length (c .before .before .loop .out) ≡ length (start .args .out .now) =
-    ap length (c .before .before .loop .inv .1) ∙ length-paste (start .args .out .now) (start .args .at) (start .args .bytes .now)
+    ap length (c .before .before .loop .inv .1) ∙ length-paste (start .args .out .now) (start .args .at)
+    (start .args .bytes .now)
     (c .before .before .loop .i) (omega arith) (omega arith) in
     omega arith
 
@@ -46,7 +47,8 @@ loop-again c =
     let start = c .before .before .before in (
       search needs,
       rw (c .before .before .loop .inv .1, add-one (c .before .before .loop .i))
-          (paste-suc (start .args .out .now) (start .args .at) (start .args .bytes .now) (c .before .before .loop .i) 0 (omega arith)
+          (paste-suc (start .args .out .now) (start .args .at) (start .args .bytes .now)
+          (c .before .before .loop .i) 0 (omega arith)
           (omega arith)),
     )
 
@@ -56,7 +58,8 @@ add-result c = search needs
 same-length : tie.Need-same-length Inv-loop μ-loop
 same-length c =
     let start = c .before .before in
-    ap length (c .before .loop .inv .1) ∙ length-paste (start .args .out .now) (start .args .at) (start .args .bytes .now)
+    ap length (c .before .loop .inv .1) ∙ length-paste (start .args .out .now) (start .args .at)
+    (start .args .bytes .now)
     (c .before .loop .i) (omega arith) (omega arith)
 
 returns : tie.Need-returns Inv-loop μ-loop

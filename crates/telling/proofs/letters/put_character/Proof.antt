@@ -22,7 +22,11 @@ same-length c = search needs
 
 returns : tie.Need-returns
 unfolding characterText
-returns c = rw (← c .before .before .before .before .before .is-shown .ensures, c .before .before .before .before .if1 .taken) (c .before .before .put-byte .ensures)
+returns c =
+    rw (
+      ← c .before .before .before .before .before .is-shown .ensures,
+      c .before .before .before .before .if1 .taken,
+    ) (c .before .before .put-byte .ensures)
 
 put-byte-requires-2 : tie.Need-put-byte-requires-2
 put-byte-requires-2 c κs = search needs
@@ -39,10 +43,11 @@ same-length-2 c = search needs
 returns-2 : tie.Need-returns-2
 unfolding characterText
 returns-2 c =
-    let start = c .before .before .before .before .before .before .before .before .before .before .before .before .before .before .before in
-    let front = wrote-two (start .args .out .now) (start .args .at) (omega arith) (c .before .before .before .before .before .before .before .before .before .before .put-byte2 .ensures)
+    let far = c .before .before .before .before .before .before .before .before .before .before in
+    let start = far .before .before .before .before .before in
+    let front = wrote-two (start .args .out .now) (start .args .at) (omega arith) (far .put-byte2 .ensures)
     (c .before .before .before .before .before .before .put-byte3 .ensures) in
-    rw (← c .before .before .before .before .before .before .before .before .before .before .before .before .before .is-shown .ensures, c .before .before .before .before .before .before .before .before .before .before .before .before .if1 .left)
+    rw (← far .before .before .before .is-shown .ensures, far .before .before .if1 .left)
     (wrote-two (start .args .out .now) (start .args .at) (omega arith) front (c .before .before .put-two .ensures))
 
 pub put-character-spec : {M : Type 1} → statement M

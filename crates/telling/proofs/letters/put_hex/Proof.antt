@@ -27,7 +27,9 @@ same-length c = search needs
 returns : tie.Need-returns
 unfolding hexFour
 returns c =
-    wrote-two (c .before .before .before .before .before .before .before .before .before .args .out .now) (c .before .before .before .before .before .before .before .before .before .args .at) (omega arith) (c .before .before .before .before .before .before .put-two .ensures) (c .before .before .put-two2 .ensures)
+    wrote-two (c .before .before .before .before .before .before .before .before .before .args .out .now)
+    (c .before .before .before .before .before .before .before .before .before .args .at) (omega arith)
+    (c .before .before .before .before .before .before .put-two .ensures) (c .before .before .put-two2 .ensures)
 
 pub put-hex-spec : {M : Type 1} → statement M
 put-hex-spec =

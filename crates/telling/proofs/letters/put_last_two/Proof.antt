@@ -25,7 +25,9 @@ same-length c = search needs
 
 returns : tie.Need-returns
 returns c =
-    wrote-two (c .before .before .before .before .before .before .before .before .before .args .out .now) (c .before .before .before .before .before .before .before .before .before .args .at) (omega arith) (c .before .before .before .before .before .before .put-byte .ensures) (c .before .before .put-byte2 .ensures)
+    wrote-two (c .before .before .before .before .before .before .before .before .before .args .out .now)
+    (c .before .before .before .before .before .before .before .before .before .args .at) (omega arith)
+    (c .before .before .before .before .before .before .put-byte .ensures) (c .before .before .put-byte2 .ensures)
 
 pub put-last-two-spec : {M : Type 1} → statement M
 put-last-two-spec =

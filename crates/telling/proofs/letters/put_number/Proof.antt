@@ -18,7 +18,8 @@ same-length c = search needs
 
 returns : tie.Need-returns
 returns c =
-    let most = count-most 10 48 (omega arith) 19 (c .before .before .before .before .before .args .number) (omega arith) in
+    let most = count-most 10 48 (omega arith) 19 (c .before .before .before .before .before .args .number)
+    (omega arith) in
     (c .before .before .put-digits .ensures, omega arith)
 
 pub put-number-spec : {M : Type 1} → statement M

@@ -26,8 +26,14 @@ same-length c = search needs
 
 returns : tie.Need-returns
 returns c =
-    rw (c .before .before .before .before .before .before .before .before .before .hex-digit .ensures, c .before .before .before .before .hex-digit2 .ensures) at
-    (wrote-two (c .before .before .before .before .before .before .before .before .before .before .before .args .out .now) (c .before .before .before .before .before .before .before .before .before .before .before .args .at) (omega arith) (c .before .before .before .before .before .before .before .put-byte .ensures) (c .before .before .put-byte2 .ensures))
+    let far = c .before .before .before .before .before .before .before .before .before .before in
+    rw (
+      c .before .before .before .before .before .before .before .before .before .hex-digit .ensures,
+      c .before .before .before .before .hex-digit2 .ensures,
+    ) at
+    (wrote-two (far .before .args .out .now) (far .before .args .at) (omega arith)
+    (c .before .before .before .before .before .before .before .put-byte .ensures)
+    (c .before .before .put-byte2 .ensures))
 
 pub put-two-spec : {M : Type 1} → statement M
 put-two-spec =

@@ -18,7 +18,8 @@ same-length c = search needs
 
 returns : tie.Need-returns
 returns c =
-    let most = count-most 256 0 (omega arith) 7 (c .before .before .before .before .before .args .letters) (omega arith) in
+    let most = count-most 256 0 (omega arith) 7 (c .before .before .before .before .before .args .letters)
+    (omega arith) in
     (c .before .before .put-digits .ensures, omega arith)
 
 pub put-word-spec : {M : Type 1} → statement M

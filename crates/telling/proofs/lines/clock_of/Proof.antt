@@ -20,7 +20,13 @@ read-requires : tie.Need-read-requires
 read-requires c κs = search needs
 
 returns : tie.Need-returns
-returns c = rw (c .read .ensures .0, c .before .before .before .word .ensures, c .before .before .word2 .ensures, c .before .word3 .ensures)
+returns c =
+    rw (
+      c .read .ensures .0,
+      c .before .before .before .word .ensures,
+      c .before .before .word2 .ensures,
+      c .before .word3 .ensures,
+    )
 
 pub clock-of-spec : {M : Type 1} → statement M
 clock-of-spec =

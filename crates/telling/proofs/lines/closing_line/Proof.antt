@@ -60,7 +60,8 @@ returns-4 : tie.Need-returns-4
 returns-4 c = search needs
 
 returns-5 : tie.Need-returns-5
-returns-5 c = rw (c .before .before .enum-told5 .given .1) (rw (c .before .local-date .ensures .0) at (c .local-line .ensures))
+returns-5 c =
+    rw (c .before .before .enum-told5 .given .1) (rw (c .before .local-date .ensures .0) at (c .local-line .ensures))
 
 returns-6 : tie.Need-returns-6
 returns-6 c = search needs

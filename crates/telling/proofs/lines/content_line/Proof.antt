@@ -53,7 +53,8 @@ enum-told-2 c = search needs
 
 returns : tie.Need-returns
 returns c =
-    rw (c .before .before .before .before .content .given .1) (rw (c .before .before .first .ensures, c .before .second .ensures) at (c .name-with-af .ensures))
+    rw (c .before .before .before .before .content .given .1) (rw
+    (c .before .before .first .ensures, c .before .second .ensures) at (c .name-with-af .ensures))
 
 returns-2 : tie.Need-returns-2
 returns-2 c = rw (c .before .before .content2 .given .1, c .name .ensures)

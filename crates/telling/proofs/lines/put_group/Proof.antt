@@ -36,10 +36,18 @@ same-length c = search needs
 returns : tie.Need-returns
 unfolding groupText
 returns c =
-    let start = c .before .before .before .before .before .before .before .before .before .before .before .before .before .before .before .before in
-    let two = wrote-two (start .args .out .now) 0 (omega arith) (c .before .before .before .before .before .before .before .before .before .before .before .before .put-line .ensures .0) (c .before .before .before .before .before .before .before .put-line2 .ensures .0) in
-    let all = wrote-two (start .args .out .now) 0 (omega arith) two (c .before .before .put-line3 .ensures .0) in
-    (rw (c .before .before .before .before .before .before .before .before .before .before .before .before .before .before .head .ensures, c .before .before .before .before .before .before .before .before .before .carried .ensures, c .before .before .before .before .closing .ensures) at all, omega arith)
+    let far = c .before .before .before .before .before .before .before .before .before .before in
+    let start = far .before .before .before .before .before .before in
+    let two = wrote-two (start .args .out .now) 0 (omega arith) (far .before .before .put-line .ensures .0)
+    (c .before .before .before .before .before .before .before .put-line2 .ensures .0) in
+    let all = wrote-two (start .args .out .now) 0 (omega arith) two (c .before .before .put-line3 .ensures .0) in (
+      rw (
+        far .before .before .before .before .head .ensures,
+        c .before .before .before .before .before .before .before .before .before .carried .ensures,
+        c .before .before .before .before .closing .ensures,
+      ) at all,
+      omega arith,
+    )
 
 pub put-group-spec : {M : Type 1} → statement M
 put-group-spec =

@@ -21,8 +21,13 @@ abbrev μ-loop : tie.MeasureT-loop
 μ-loop out₀ at line next₀ i₀ out next i = 16 - i
 
 loop-holds : tie.Need-loop-holds Inv-loop μ-loop
-loop-holds c =
-    (omega arith, omega arith, refl, turn-first pieceText (c .before .args .t1) (c .before .args .out .now) (c .before .args .at))
+loop-holds c = (
+  omega arith,
+  omega arith,
+  refl,
+  turn-first pieceText (c .before .args .t1) (c .before .args .out .now)
+      (c .before .args .at),
+)
 
 mul-piece : tie.Need-mul-piece Inv-loop μ-loop
 mul-piece c = search needs
@@ -46,7 +51,8 @@ loop-again c =
       omega arith,
       omega arith,
       search needs,
-      turn-next pieceText (start .args .t1) (start .args .out .now) (start .args .at) (Word 0) (omega arith) (omega arith)
+      turn-next pieceText (start .args .t1) (start .args .out .now) (start .args .at) (Word 0) (omega arith)
+          (omega arith)
           (turn .inv .3) (c .before .before .put-piece .ensures .0),
     )
 
@@ -56,7 +62,8 @@ same-length c = search needs
 returns : tie.Need-returns Inv-loop μ-loop
 returns c =
     let start = c .before .before .before in (
-      turn-last pieceText (start .args .t1) (start .args .out .now) (start .args .at) (omega arith) (c .before .loop .inv .3),
+      turn-last pieceText (start .args .t1) (start .args .out .now) (start .args .at) (omega arith)
+          (c .before .loop .inv .3),
       omega arith,
     )
 

@@ -50,7 +50,9 @@ same-length : tie.Need-same-length
 same-length c = search needs
 
 returns : tie.Need-returns
-returns c = rw (c .before .before .before .before .before .piece .given .1) (c .before .before .put-word .ensures .0, omega arith)
+returns c =
+    rw (c .before .before .before .before .before .piece .given .1)
+    (c .before .before .put-word .ensures .0, omega arith)
 
 same-length-2 : tie.Need-same-length-2
 same-length-2 c = search needs
@@ -62,23 +64,42 @@ same-length-3 : tie.Need-same-length-3
 same-length-3 c = search needs
 
 returns-3 : tie.Need-returns-3
-returns-3 c = rw (c .before .before .before .before .before .piece3 .given .1) (c .before .before .put-last-two .ensures, omega arith)
+returns-3 c =
+    rw (c .before .before .before .before .before .piece3 .given .1)
+    (c .before .before .put-last-two .ensures, omega arith)
 
 same-length-4 : tie.Need-same-length-4
 same-length-4 c = search needs
 
 returns-4 : tie.Need-returns-4
-returns-4 c = rw (c .before .before .before .before .before .piece4 .given .1) (c .before .before .put-hex .ensures, omega (arith, hex-most (c .before .before .before .before .before .piece4 .given .0 .0)))
+returns-4 c =
+    rw (c .before .before .before .before .before .piece4 .given .1) (
+      c .before .before .put-hex .ensures,
+      omega
+          (arith, hex-most (c .before .before .before .before .before .piece4 .given .0 .0)),
+    )
 
 same-length-5 : tie.Need-same-length-5
 same-length-5 c = search needs
 
 returns-5 : tie.Need-returns-5
 returns-5 c =
-    rw (c .before .before .before .before .before .piece5 .given .1) (c .before .before .put-character .ensures, omega (arith, character-most (c .before .before .before .before .before .piece5 .given .0 .0)))
+    rw (c .before .before .before .before .before .piece5 .given .1) (
+      c .before .before .put-character .ensures,
+      omega (
+        arith,
+        character-most
+            (c .before .before .before .before .before .piece5 .given .0 .0),
+      ),
+    )
 
 returns-6 : tie.Need-returns-6
-returns-6 c = rw (c .enum-told .given .1) (wrote-none (c .before .before .before .args .out .now) (c .before .before .before .args .at), omega arith)
+returns-6 c =
+    rw (c .enum-told .given .1) (
+      wrote-none (c .before .before .before .args .out .now)
+          (c .before .before .before .args .at),
+      omega arith,
+    )
 
 pub put-piece-spec : {M : Type 1} → statement M
 put-piece-spec =

@@ -54,7 +54,8 @@ returns-4 : tie.Need-returns-4
 returns-4 c = rw (c .before .enum-told4 .given .1) (c .with-loss .ensures)
 
 returns-5 : tie.Need-returns-5
-returns-5 c = rw (c .before .before .enum-told5 .given .1) (rw (c .before .with-group2 .ensures) at (c .with-loss2 .ensures))
+returns-5 c =
+    rw (c .before .before .enum-told5 .given .1) (rw (c .before .with-group2 .ensures) at (c .with-loss2 .ensures))
 
 returns-6 : tie.Need-returns-6
 returns-6 c = search needs
