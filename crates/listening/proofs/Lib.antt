@@ -1,2 +1,3 @@
 -- The laws of the library of `listen`.
 pub mod Rounds
+pub mod Advances

@@ -1,5 +1,10 @@
 -- What the program `listen` keeps from bit to bit, and what an answer makes of it.
-use Rattle.receiver.specs.Machine.{freshOf as freshReceiver}
+use Prim.Native.Nat.{ℕ, zero, suc, _+_, _*_}
+use mathlib.Core.List.{List}
+use lib.ListN.{length}
+use Rattle.bits.specs.Bytes.{bitAt}
+use Rattle.receiver.specs.Machine.{freshOf as freshReceiver, stepOf}
+use Rattle.receiver.specs.Feeding.{byteBits}
 use Rattle.receiver.specs.declared.Advanced.{Advanced}
 use Rattle.station.specs.Record.{freshOf as freshStation}
 use Rattle.station.specs.Update.{updatedOf}
@@ -19,3 +24,22 @@ heardOf ear taken =
       station = updatedOf (ear .station) (taken .group);
       counts = countedOf (ear .counts) (taken .answer) (taken .group);
     }
+
+-- one bit: what the receiver answers to it
+abbrev pub tookOf : Ear → ℕ → Ear
+tookOf ear bit =
+    record {
+      receiver = stepOf (ear .receiver) bit .next;
+      station = updatedOf (ear .station) (stepOf (ear .receiver) bit .group);
+      counts =
+          countedOf (ear .counts) (stepOf (ear .receiver) bit .answer) (stepOf (ear .receiver) bit .group);
+    }
+
+-- n bits of a piece, from bit i on
+unfoldable pub tookFrom : Ear → List ℕ → ℕ → ℕ → Ear
+tookFrom ear piece i zero = ear
+tookFrom ear piece i (suc n) = tookFrom (tookOf ear (bitAt piece i)) piece (i + 1) n
+
+-- all bits of a piece, one after the other
+unfoldable pub hearOf : Ear → List ℕ → Ear
+hearOf ear piece = tookFrom ear piece 0 (byteBits * length piece)

@@ -3,7 +3,7 @@
 ghost use mathlib.Core.Path.{_≡_};
 ghost use Prim.Native.Nat.{_+_, _*_, _-_, _%_, _^_};
 ghost use Rattle.io.specs.Counts.{Counts as Counted};
-ghost use Rattle.listening.specs.Ear.{freshEar, heardOf};
+ghost use Rattle.listening.specs.Ear.{freshEar, heardOf, hearOf};
 use groups::Group;
 use libc::STDIN_FILENO;
 use libc::STDOUT_FILENO;
@@ -144,23 +144,20 @@ fn write_taken(ear: Ear, taken: Advanced, before: u64, short: bool) {
     );
 }
 
-// Feeds a piece of a recording. Each turn feeds a bit at least, so there are no more turns than bits.
-fn hear(ear: Ear, piece: &[u8], before: u64, short: bool) -> Ear {
+// Feeds a piece of a recording, from answer to answer, and writes their lines.
+fn hear(ear: Ear, piece: &[u8], before: u64, short: bool) -> Ear
+    ensures { λ r. ⌜ r ≡ hearOf ear (now (piece .entry)) ⌝ }
+{
     let mut now = ear;
     let mut byte: usize = 0;
     let mut bit: u8 = 0;
-    let mut turns = u64::MAX;
     while byte < piece.len() {
-        if turns == 0 {
-            break;
-        }
         let receiver = now.receiver;
         let taken = receiver.advance(piece, byte, bit);
         write_taken(now, taken, before, short);
         now = heard(now, taken);
         byte = taken.byte;
         bit = taken.bit;
-        turns -= 1;
     }
     now
 }

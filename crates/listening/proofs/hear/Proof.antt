@@ -1,4 +1,11 @@
--- `listening::hear` is safe and ends: the number of turns that are left falls.
+-- `listening::hear` meets its promise: before each turn the rest of the bits is still to be heard, and each turn moves on.
+use Prim.Native.Nat.{_*_, _-_, _<_}
+use mathlib.Core.Path.{_≡_, sym, _∙_}
+use native.Mathlib.Omega.{arith}
+use lib.ListN.{length}
+use Rattle.receiver.specs.Feeding.{byteBits}
+use Rattle.listening.specs.Ear.{hearOf}
+use Rattle.listening.proofs.Advances.{at, rest, hear-first, hear-next, hear-last}
 use borrow.Author.Needs.{needs}
 use Rattle.listening.proofs.hear.Statement.{statement}
 use Rattle.listening.proofs.hear.Tie as tie
@@ -9,13 +16,14 @@ use Rattle.listening.proofs.write_taken.Reads as write-taken-reads
 use Rattle.receiver.proofs.Receiver.advance.Reads as advance-reads
 
 abbrev Inv-loop : tie.InvT-loop
-Inv-loop piece before short now₀ byte₀ bit₀ turns₀ now byte bit turns = Unit {0}
+Inv-loop piece before short now₀ byte₀ bit₀ now byte bit =
+    (bit < byteBits) × (hearOf now₀ piece ≡ rest now piece byte bit)
 
 abbrev μ-loop : tie.MeasureT-loop
-μ-loop piece before short now₀ byte₀ bit₀ turns₀ now byte bit turns = turns
+μ-loop piece before short now₀ byte₀ bit₀ now byte bit = byteBits * length piece - at byte bit
 
 loop-holds : tie.Need-loop-holds Inv-loop μ-loop
-loop-holds c = search needs
+loop-holds c = (omega arith, hear-first (c .before .args .ear) (c .before .args .piece .now))
 
 advance-requires : tie.Need-advance-requires Inv-loop μ-loop
 advance-requires c κs = search needs
@@ -26,20 +34,22 @@ write-taken-requires c κs = search needs
 heard-requires : tie.Need-heard-requires Inv-loop μ-loop
 heard-requires c κs = search needs
 
-sub-turns : tie.Need-sub-turns Inv-loop μ-loop
-sub-turns c = search needs
-
 loop-less : tie.Need-loop-less Inv-loop μ-loop
-loop-less c = search needs
+loop-less c =
+    let turn = c .before .before .before .before .before .loop in
+    let next = hear-next (turn .now) (c .before .before .before .before .before .before .before .args .piece .now) (turn .byte) (turn .bit) _ _ (omega arith)
+    (turn .inv .0) (c .before .before .advance .ensures .0) (c .heard .ensures) in omega (arith, next .1)
 
 loop-again : tie.Need-loop-again Inv-loop μ-loop
-loop-again c = search needs
+loop-again c =
+    let turn = c .before .before .before .before .before .loop in
+    let next = hear-next (turn .now) (c .before .before .before .before .before .before .before .args .piece .now) (turn .byte) (turn .bit) _ _ (omega arith)
+    (turn .inv .0) (c .before .before .advance .ensures .0) (c .heard .ensures) in (next .2, turn .inv .1 ∙ next .0)
 
 returns : tie.Need-returns Inv-loop μ-loop
-returns c = search needs
-
-returns-2 : tie.Need-returns-2 Inv-loop μ-loop
-returns-2 c = search needs
+returns c =
+    let turn = c .before .loop in
+    sym (turn .inv .1 ∙ hear-last (turn .now) (c .before .before .before .args .piece .now) (turn .byte) (turn .bit) (omega arith))
 
 pub hear-spec : {M : Type 1} → statement M
 hear-spec =
@@ -51,8 +61,6 @@ hear-spec =
     advance-requires
     write-taken-requires
     heard-requires
-    sub-turns
     loop-less
     loop-again
-    returns
-    returns-2)
+    returns)
