@@ -198,7 +198,7 @@ fn put_rest(station: Record, out: &mut [u8], at: usize) -> usize
 }
 
 // All that is held of a station, at the front of a buffer that has room for it.
-pub fn put_station(station: Record, out: &mut [u8]) -> usize
+pub(crate) fn put_station(station: Record, out: &mut [u8]) -> usize
     requires { ⌜ 7919 ≤ length (now out) ⌝ }
     ensures { λ r. ⌜ Wrote (now (out .entry)) 0 (stationText station) (now (out .exit)) r × (r ≤ 7919) ⌝ }
 {

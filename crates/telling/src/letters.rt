@@ -24,7 +24,7 @@ const FIRST_SHOWN: u8 = 32;
 const LAST_SHOWN: u8 = 126;
 
 // One character.
-pub fn put_byte(byte: u8, out: &mut [u8], at: usize) -> usize
+pub(crate) fn put_byte(byte: u8, out: &mut [u8], at: usize) -> usize
     requires { ⌜ at < length (now out) ⌝ }
     ensures { λ r. ⌜ Wrote (now (out .entry)) at (byte ∷ []) (now (out .exit)) r ⌝ }
 {
@@ -33,7 +33,7 @@ pub fn put_byte(byte: u8, out: &mut [u8], at: usize) -> usize
 }
 
 // All bytes of a slice.
-pub fn put_bytes(bytes: &[u8], out: &mut [u8], at: usize) -> usize
+pub(crate) fn put_bytes(bytes: &[u8], out: &mut [u8], at: usize) -> usize
     requires { ⌜ at + length (now bytes) ≤ length (now out) ⌝ }
     ensures { λ r. ⌜ Wrote (now (out .entry)) at (now (bytes .entry)) (now (out .exit)) r ⌝ }
 {
@@ -58,7 +58,7 @@ fn hex_digit(digit: u8) -> u8
 }
 
 // A byte as two hexadecimal digits.
-pub fn put_two(byte: u8, out: &mut [u8], at: usize) -> usize
+pub(crate) fn put_two(byte: u8, out: &mut [u8], at: usize) -> usize
     requires { ⌜ at + 2 ≤ length (now out) ⌝ }
     ensures { λ r. ⌜ Wrote (now (out .entry)) at (hexTwo byte) (now (out .exit)) r ⌝ }
 {
@@ -67,7 +67,7 @@ pub fn put_two(byte: u8, out: &mut [u8], at: usize) -> usize
 }
 
 // A word as four hexadecimal digits.
-pub fn put_hex(word: u16, out: &mut [u8], at: usize) -> usize
+pub(crate) fn put_hex(word: u16, out: &mut [u8], at: usize) -> usize
     requires { ⌜ at + 4 ≤ length (now out) ⌝ }
     ensures { λ r. ⌜ Wrote (now (out .entry)) at (hexFour word) (now (out .exit)) r ⌝ }
 {
@@ -76,7 +76,7 @@ pub fn put_hex(word: u16, out: &mut [u8], at: usize) -> usize
 }
 
 // The last two digits of a decimal number.
-pub fn put_last_two(number: u8, out: &mut [u8], at: usize) -> usize
+pub(crate) fn put_last_two(number: u8, out: &mut [u8], at: usize) -> usize
     requires { ⌜ at + 2 ≤ length (now out) ⌝ }
     ensures { λ r. ⌜ Wrote (now (out .entry)) at (lastTwo number) (now (out .exit)) r ⌝ }
 {
@@ -97,7 +97,7 @@ fn put_digits(number: u64, base: u64, nought: u8, out: &mut [u8], at: usize) -> 
 }
 
 // A number in decimal digits.
-pub fn put_number(number: u64, out: &mut [u8], at: usize) -> usize
+pub(crate) fn put_number(number: u64, out: &mut [u8], at: usize) -> usize
     requires { ⌜ at + 20 ≤ length (now out) ⌝ }
     ensures { λ r. ⌜ Wrote (now (out .entry)) at (decimalOf number) (now (out .exit)) r × (r ≤ at + 20) ⌝ }
 {
@@ -105,7 +105,7 @@ pub fn put_number(number: u64, out: &mut [u8], at: usize) -> usize
 }
 
 // The letters of a word.
-pub fn put_word(letters: u64, out: &mut [u8], at: usize) -> usize
+pub(crate) fn put_word(letters: u64, out: &mut [u8], at: usize) -> usize
     requires { ⌜ at + 8 ≤ length (now out) ⌝ }
     ensures { λ r. ⌜ Wrote (now (out .entry)) at (lettersOf letters) (now (out .exit)) r × (r ≤ at + 8) ⌝ }
 {
@@ -113,7 +113,7 @@ pub fn put_word(letters: u64, out: &mut [u8], at: usize) -> usize
 }
 
 // A character of a name or a text.
-pub fn put_character(character: u8, out: &mut [u8], at: usize) -> usize
+pub(crate) fn put_character(character: u8, out: &mut [u8], at: usize) -> usize
     requires { ⌜ at + 4 ≤ length (now out) ⌝ }
     ensures { λ r. ⌜ Wrote (now (out .entry)) at (characterText character) (now (out .exit)) r ⌝ }
 {

@@ -22,10 +22,10 @@ use groups::Group;
 use groups::fields::Content;
 
 // The pieces of a line.
-pub type Line = [Piece; 16];
+pub(crate) type Line = [Piece; 16];
 
 // The signs between pieces.
-pub const SPACE: Piece = Piece::Character(32);
+pub(crate) const SPACE: Piece = Piece::Character(32);
 
 const HYPHEN: Piece = Piece::Character(45);
 
@@ -43,7 +43,7 @@ const QUOTE_CLOSES: Piece = Piece::Word(words::QUOTE_CLOSES);
 const LETTER_A: u8 = 65;
 
 // A yes or no as 1 or 0.
-pub fn bit(flag: bool) -> Piece
+pub(crate) fn bit(flag: bool) -> Piece
     ensures { λ r. ⌜ r ≡ bitPiece flag ⌝ }
 {
     if flag {
@@ -53,7 +53,7 @@ pub fn bit(flag: bool) -> Piece
 }
 
 // Lock was taken.
-pub fn lock(bit: u64) -> Line
+pub(crate) fn lock(bit: u64) -> Line
     ensures { λ r. ⌜ lineText r ≡ lineText (lockLine bit) ⌝ }
 {
     let mut line = [Piece::Silent; 16];
@@ -64,7 +64,7 @@ pub fn lock(bit: u64) -> Line
 }
 
 // Lock was lost.
-pub fn lost(bit: u64) -> Line
+pub(crate) fn lost(bit: u64) -> Line
     ensures { λ r. ⌜ lineText r ≡ lineText (lostLine bit) ⌝ }
 {
     let mut line = [Piece::Silent; 16];
@@ -252,7 +252,7 @@ fn sign(negative: bool) -> Piece
 }
 
 // A clock behind its label, or that there is none.
-pub fn clock_line(label: u64, held: Held) -> Line
+pub(crate) fn clock_line(label: u64, held: Held) -> Line
     ensures { λ r. ⌜ lineText r ≡ lineText (clockLine label held) ⌝ }
 {
     let mut line = [Piece::Silent; 16];
@@ -275,7 +275,7 @@ pub fn clock_line(label: u64, held: Held) -> Line
 }
 
 // A local date and time behind its label, or that there is none; the line ends with it.
-pub fn local_line(label: u64, local: Local) -> Line
+pub(crate) fn local_line(label: u64, local: Local) -> Line
     ensures { λ r. ⌜ lineText r ≡ lineText (localLine label local) ⌝ }
 {
     let mut line = [Piece::Silent; 16];
@@ -408,7 +408,7 @@ fn closing(group: Group) -> Line
 }
 
 // The line of a group at the front of a buffer that has room for it.
-pub fn put_group(number: u64, group: Group, out: &mut [u8]) -> usize
+pub(crate) fn put_group(number: u64, group: Group, out: &mut [u8]) -> usize
     requires { ⌜ 1024 ≤ length (now out) ⌝ }
     ensures { λ r. ⌜ Wrote (now (out .entry)) 0 (groupText number group) (now (out .exit)) r × (r ≤ 1024) ⌝ }
 {

@@ -8,7 +8,7 @@ use crate::letters;
 
 // A piece: a word by the number that its letters spell, a number in decimal, the last two digits of one, a word of a
 // group in hexadecimal, a character, or nothing.
-pub enum Piece {
+pub(crate) enum Piece {
     Word(u64),
     Number(u64),
     Two(u8),
@@ -33,7 +33,7 @@ fn put_piece(piece: Piece, out: &mut [u8], at: usize) -> usize
 }
 
 // Sixteen pieces, one behind the other.
-pub fn put_line(line: [Piece; 16], out: &mut [u8], at: usize) -> usize
+pub(crate) fn put_line(line: [Piece; 16], out: &mut [u8], at: usize) -> usize
     requires { ⌜ (at + 320 ≤ length (now out)) × (length line ≡ 16) ⌝ }
     ensures { λ r. ⌜ Wrote (now (out .entry)) at (lineText line) (now (out .exit)) r × (r ≤ at + 320) ⌝ }
 {

@@ -95,7 +95,7 @@ pub fn counted(counts: Counts, answer: Answer, group: Group) -> Counts
 }
 
 // The lines of the counts.
-pub fn lines_of(counts: Counts) -> Line
+pub(crate) fn lines_of(counts: Counts) -> Line
     ensures { λ r. ⌜ lineText r ≡ lineText (countsLine counts) ⌝ }
 {
     let mut line = [Piece::Silent; 16];

@@ -37,14 +37,20 @@ heard-requires c κs = search needs
 loop-less : tie.Need-loop-less Inv-loop μ-loop
 loop-less c =
     let turn = c .before .before .before .before .before .loop in
-    let next = hear-next (turn .now) (c .before .before .before .before .before .before .before .args .piece .now) (turn .byte) (turn .bit) _ _ (omega arith)
-    (turn .inv .0) (c .before .before .advance .ensures .0) (c .heard .ensures) in omega (arith, next .1)
+    let piece = c .before .before .before .before .before .before .before .args .piece .now in
+    let next =
+    hear-next (turn .now) piece (turn .byte) (turn .bit) _ _ (omega arith) (turn .inv .0)
+    (c .before .before .advance .ensures .0) (c .heard .ensures) in
+    omega (arith, next .1)
 
 loop-again : tie.Need-loop-again Inv-loop μ-loop
 loop-again c =
     let turn = c .before .before .before .before .before .loop in
-    let next = hear-next (turn .now) (c .before .before .before .before .before .before .before .args .piece .now) (turn .byte) (turn .bit) _ _ (omega arith)
-    (turn .inv .0) (c .before .before .advance .ensures .0) (c .heard .ensures) in (next .2, turn .inv .1 ∙ next .0)
+    let piece = c .before .before .before .before .before .before .before .args .piece .now in
+    let next =
+    hear-next (turn .now) piece (turn .byte) (turn .bit) _ _ (omega arith) (turn .inv .0)
+    (c .before .before .advance .ensures .0) (c .heard .ensures) in
+    (next .2, turn .inv .1 ∙ next .0)
 
 returns : tie.Need-returns Inv-loop μ-loop
 returns c =
