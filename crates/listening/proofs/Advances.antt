@@ -1,7 +1,7 @@
 -- From answer to answer is bit by bit: where the receiver advances over bits that answer nothing, neither the record nor
 -- the counts change; and it moves on.
 use Prim.Native.Nat.{ℕ, zero, suc, _+_, _*_, _-_, _/_, _%_, _<_, _≤_}
-use mathlib.Core.Path.{_≡_, refl, sym, ap, _∙_}
+use mathlib.Core.Path.{_≡_, refl, ap, _∙_}
 use mathlib.Core.List.{List}
 use mathlib.Core.Bool.{Bool, true, false, false≢true}
 use native.Mathlib.Omega.{arith}
@@ -15,9 +15,8 @@ use Rattle.receiver.specs.declared.Receiver.{Receiver}
 use Rattle.receiver.specs.declared.Step.{Step}
 use Rattle.receiver.specs.declared.Advanced.{Advanced}
 use Rattle.receiver.specs.Answers.{bringsGroup}
-use Rattle.receiver.specs.Machine.{silentOf, stepOf}
+use Rattle.receiver.specs.Machine.{stepOf}
 use Rattle.receiver.specs.Feeding.{byteBits, isNothingOf, stoppedOf, advanceOf}
-use Rattle.receiver.specs.Strides.{thenOf}
 use Rattle.receiver.proofs.Refusal.{no-group-empty}
 use Rattle.receiver.proofs.Feeds.{advance-end, feed-one, then-on, then-stop}
 use Rattle.station.specs.declared.Record.{Record}

@@ -1,11 +1,11 @@
 -- Handing a text over: it is refused exactly if the buffer is shorter, and a text at the front of our own buffer is
 -- what stands there up to its end.
 use Prim.Native.Nat.{ℕ, _+_, _<_, _≤_}
-use mathlib.Core.Path.{_≡_, refl, sym, ap, _∙_}
-use mathlib.Core.List.{List, [], _∷_, _++_}
+use mathlib.Core.Path.{_≡_, refl, _∙_}
+use mathlib.Core.List.{List, _++_}
 use native.Mathlib.Omega.{arith}
 use lib.ListN.{length, take, drop}
-use lib.Seq.{take-at, length-take-le}
+use lib.Seq.{take-at}
 use borrow.Author.Tests.{lt-ltb, le-ltb}
 use Rattle.telling.specs.Letters.{written, Wrote}
 use Rattle.telling.specs.Told.{tooShort, toldOf, bufferOf, Tells}

@@ -1,10 +1,10 @@
 -- Words: the letters that spell a word's number are the word's letters again.
 use Prim.Native.Nat.{ℕ, _+_, _*_, _/_, _%_, _<_, _≤_}
-use mathlib.Core.Path.{_≡_, refl, sym, ap, ap₂, _∙_}
+use mathlib.Core.Path.{_≡_, sym, ap, ap₂, _∙_}
 use mathlib.Core.List.{List, [], _∷_, _++_, append-nil}
 use native.Mathlib.Omega.{arith}
 use lib.Seq.{append-snoc}
-use Rattle.telling.specs.Letters.{spelling, digitsOf, lettersOf}
+use Rattle.telling.specs.Letters.{spelling, lettersOf}
 use Rattle.telling.proofs.Digits.{digits-small, digits-large}
 
 -- codes of a byte each

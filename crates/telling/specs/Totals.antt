@@ -1,7 +1,7 @@
 -- The counts of a recording: groups, bad groups, locks and losses.
 use Prim.Native.Nat.{ℕ, _+_, _-_, _^_}
 use mathlib.Core.List.{List, [], _∷_}
-use mathlib.Core.Bool.{Bool, cond}
+use mathlib.Core.Bool.{cond}
 use lib.Dec.{ltb}
 use Rattle.groups.specs.Group.{isAllGoodOf}
 use Rattle.groups.specs.declared.Group.{Group}

@@ -6,7 +6,7 @@ ghost use lib.ListN.{length};
 ghost use Rattle.frequencies.specs.AfList.{heldOf};
 ghost use Rattle.telling.specs.Letters.{Wrote, joined, decimalOf, characterText};
 ghost use Rattle.telling.specs.Pieces.{lineText};
-ghost use Rattle.telling.specs.Station.{piPiece, stationLine, markText, seenLine, shownText, textLine, flagPiece};
+ghost use Rattle.telling.specs.Station.{piPiece, stationLine, markText, shownText, flagPiece};
 ghost use Rattle.telling.specs.Station.{listLine, frequenciesTo, nameText, textText, restText, stationText};
 use crate::letters;
 use crate::lines;

@@ -1,6 +1,5 @@
 // What the program `listen` writes: each line as characters in a buffer that is lent.
 // Refused, with number 8: a buffer that is too short; it is then as it was.
-ghost use mathlib.Core.List.{[], _∷_};
 ghost use Rattle.telling.specs.Pieces.{lineText};
 ghost use Rattle.telling.specs.Lines.{lockLine, lostLine, groupText};
 ghost use Rattle.telling.specs.Station.{stationText};

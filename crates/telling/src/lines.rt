@@ -4,7 +4,6 @@ ghost use mathlib.Core.List.{[], _∷_, _++_};
 ghost use Prim.Native.Nat.{_≤_};
 ghost use lib.ListN.{length, replicate};
 ghost use Rattle.groups.specs.Content.{firstOf, secondOf};
-ghost use Rattle.frequencies.specs.Frequency.{frequencyOf};
 ghost use Rattle.telling.specs.Letters.{Wrote, word};
 ghost use Rattle.telling.specs.Pieces.{lineText};
 ghost use Rattle.telling.specs.Lines.{bitPiece, lockLine, lostLine, wordPiece, typePiece, versionPiece, headLine};

@@ -4,10 +4,6 @@ use native.Mathlib.Omega.{arith}
 use borrow.Author.Needs.{needs}
 use Rattle.listening.proofs.bit_number.Statement.{statement}
 use Rattle.listening.proofs.bit_number.Tie as tie
-use Rattle.listening.proofs.bit_number.Reads as reads
-use Rattle.listening.proofs.bit_number.Lts as lts
-use Rattle.std.proofs.num.wrapping_add_u64.Reads as wrapping-add-u64-reads
-use Rattle.std.proofs.num.wrapping_sub_u64.Reads as wrapping-sub-u64-reads
 
 mul-whole : tie.Need-mul-whole
 mul-whole c = search needs

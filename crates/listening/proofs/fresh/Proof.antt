@@ -2,11 +2,6 @@
 use borrow.Author.Needs.{needs}
 use Rattle.listening.proofs.fresh.Statement.{statement}
 use Rattle.listening.proofs.fresh.Tie as tie
-use Rattle.listening.proofs.fresh.Reads as reads
-use Rattle.listening.proofs.fresh.Lts as lts
-use Rattle.receiver.proofs.Receiver.new.Reads as new-reads
-use Rattle.station.proofs.fresh.Reads as fresh-reads
-use Rattle.telling.proofs.totals.none.Reads as none-reads
 
 new-requires : tie.Need-new-requires
 new-requires c κs = search needs

@@ -9,11 +9,6 @@ use Rattle.listening.proofs.Advances.{at, rest, hear-first, hear-next, 
 use borrow.Author.Needs.{needs}
 use Rattle.listening.proofs.hear.Statement.{statement}
 use Rattle.listening.proofs.hear.Tie as tie
-use Rattle.listening.proofs.hear.Reads as reads
-use Rattle.listening.proofs.hear.Lts as lts
-use Rattle.listening.proofs.heard.Reads as heard-reads
-use Rattle.listening.proofs.write_taken.Reads as write-taken-reads
-use Rattle.receiver.proofs.Receiver.advance.Reads as advance-reads
 
 abbrev Inv-loop : tie.InvT-loop
 Inv-loop piece before short now₀ byte₀ bit₀ now byte bit =

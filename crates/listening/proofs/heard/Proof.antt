@@ -2,10 +2,6 @@
 use borrow.Author.Needs.{needs}
 use Rattle.listening.proofs.heard.Statement.{statement}
 use Rattle.listening.proofs.heard.Tie as tie
-use Rattle.listening.proofs.heard.Reads as reads
-use Rattle.listening.proofs.heard.Lts as lts
-use Rattle.station.proofs.updated.Reads as updated-reads
-use Rattle.telling.proofs.totals.counted.Reads as counted-reads
 
 updated-requires : tie.Need-updated-requires
 updated-requires c κs = search needs

@@ -4,15 +4,6 @@ use lib.ListN.{length}
 use borrow.Author.Needs.{needs}
 use Rattle.listening.proofs.listen.Statement.{statement}
 use Rattle.listening.proofs.listen.Tie as tie
-use Rattle.listening.proofs.listen.Reads as reads
-use Rattle.listening.proofs.listen.Lts as lts
-use Rattle.io.proofs.count.Reads as count-reads
-use Rattle.libc.proofs.read.Reads as read-reads
-use Rattle.listening.proofs.asks_summary.Reads as asks-summary-reads
-use Rattle.listening.proofs.bit_number.Reads as bit-number-reads
-use Rattle.listening.proofs.fresh.Reads as fresh-reads
-use Rattle.listening.proofs.hear.Reads as hear-reads
-use Rattle.listening.proofs.write_summary.Reads as write-summary-reads
 
 abbrev Inv-loop : tie.InvT-loop
 Inv-loop short ear₀ before₀ piece₀ turns₀ ear before piece turns = length piece ≡ 65536

@@ -3,11 +3,6 @@ use Rattle.telling.proofs.Handing.{count-front, tells-front}
 use borrow.Author.Needs.{needs}
 use Rattle.telling.proofs.count_lines.Statement.{statement}
 use Rattle.telling.proofs.count_lines.Tie as tie
-use Rattle.telling.proofs.count_lines.Reads as reads
-use Rattle.telling.proofs.count_lines.Lts as lts
-use Rattle.telling.proofs.handed.Reads as handed-reads
-use Rattle.telling.proofs.pieces.put_line.Reads as put-line-reads
-use Rattle.telling.proofs.totals.lines_of.Reads as lines-of-reads
 
 lines-of-requires : tie.Need-lines-of-requires
 lines-of-requires c κs = search needs

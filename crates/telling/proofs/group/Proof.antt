@@ -4,10 +4,6 @@ use Rattle.telling.proofs.Handing.{count-front, tells-front}
 use borrow.Author.Needs.{needs}
 use Rattle.telling.proofs.group.Statement.{statement}
 use Rattle.telling.proofs.group.Tie as tie
-use Rattle.telling.proofs.group.Reads as reads
-use Rattle.telling.proofs.group.Lts as lts
-use Rattle.telling.proofs.handed.Reads as handed-reads
-use Rattle.telling.proofs.lines.put_group.Reads as put-group-reads
 
 slice-aggregate-put-group : tie.Need-slice-aggregate-put-group
 slice-aggregate-put-group c = search needs

@@ -4,9 +4,6 @@ use Rattle.telling.proofs.Handing.{tells-short, tells-written}
 use borrow.Author.Needs.{needs}
 use Rattle.telling.proofs.handed.Statement.{statement}
 use Rattle.telling.proofs.handed.Tie as tie
-use Rattle.telling.proofs.handed.Reads as reads
-use Rattle.telling.proofs.handed.Lts as lts
-use Rattle.telling.proofs.letters.put_bytes.Reads as put-bytes-reads
 
 returns : tie.Need-returns
 returns c =

@@ -3,11 +3,6 @@ use Rattle.telling.proofs.Handing.{count-front, tells-front}
 use borrow.Author.Needs.{needs}
 use Rattle.telling.proofs.lock.Statement.{statement}
 use Rattle.telling.proofs.lock.Tie as tie
-use Rattle.telling.proofs.lock.Reads as reads
-use Rattle.telling.proofs.lock.Lts as lts
-use Rattle.telling.proofs.handed.Reads as handed-reads
-use Rattle.telling.proofs.lines.lock.Reads as lock-reads
-use Rattle.telling.proofs.pieces.put_line.Reads as put-line-reads
 
 lock-requires : tie.Need-lock-requires
 lock-requires c κs = search needs

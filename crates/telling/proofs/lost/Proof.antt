@@ -3,11 +3,6 @@ use Rattle.telling.proofs.Handing.{count-front, tells-front}
 use borrow.Author.Needs.{needs}
 use Rattle.telling.proofs.lost.Statement.{statement}
 use Rattle.telling.proofs.lost.Tie as tie
-use Rattle.telling.proofs.lost.Reads as reads
-use Rattle.telling.proofs.lost.Lts as lts
-use Rattle.telling.proofs.handed.Reads as handed-reads
-use Rattle.telling.proofs.lines.lost.Reads as lost-reads
-use Rattle.telling.proofs.pieces.put_line.Reads as put-line-reads
 
 lost-requires : tie.Need-lost-requires
 lost-requires c κs = search needs

@@ -4,10 +4,6 @@ use Rattle.telling.proofs.Handing.{count-front, tells-front}
 use borrow.Author.Needs.{needs}
 use Rattle.telling.proofs.record_lines.Statement.{statement}
 use Rattle.telling.proofs.record_lines.Tie as tie
-use Rattle.telling.proofs.record_lines.Reads as reads
-use Rattle.telling.proofs.record_lines.Lts as lts
-use Rattle.telling.proofs.handed.Reads as handed-reads
-use Rattle.telling.proofs.held.put_station.Reads as put-station-reads
 
 slice-aggregate-put-station : tie.Need-slice-aggregate-put-station
 slice-aggregate-put-station c = search needs

@@ -2,9 +2,6 @@
 use borrow.Author.Needs.{needs}
 use Rattle.telling.proofs.held.flag_piece.Statement.{statement}
 use Rattle.telling.proofs.held.flag_piece.Tie as tie
-use Rattle.telling.proofs.held.flag_piece.Reads as reads
-use Rattle.telling.proofs.held.flag_piece.Lts as lts
-use Rattle.telling.proofs.lines.bit.Reads as bit-reads
 
 enum-known-held : tie.Need-enum-known-held
 enum-known-held c = search needs

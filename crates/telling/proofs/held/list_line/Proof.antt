@@ -2,13 +2,6 @@
 use borrow.Author.Needs.{needs}
 use Rattle.telling.proofs.held.list_line.Statement.{statement}
 use Rattle.telling.proofs.held.list_line.Tie as tie
-use Rattle.telling.proofs.held.list_line.Reads as reads
-use Rattle.telling.proofs.held.list_line.Lts as lts
-use Rattle.frequencies.proofs.expected.Reads as expected-reads
-use Rattle.frequencies.proofs.held.Reads as held-reads
-use Rattle.station.proofs.read.af_list.Reads as af-list-reads
-use Rattle.station.proofs.read.text_flag.Reads as text-flag-reads
-use Rattle.telling.proofs.held.flag_piece.Reads as flag-piece-reads
 
 af-list-requires : tie.Need-af-list-requires
 af-list-requires c κs = search needs

@@ -1,8 +1,6 @@
 -- `telling::held::mark` meets its promise: by whether the pair was seen.
 use Rattle.telling.proofs.held.mark.Statement.{statement}
 use Rattle.telling.proofs.held.mark.Tie as tie
-use Rattle.telling.proofs.held.mark.Reads as reads
-use Rattle.telling.proofs.held.mark.Lts as lts
 
 returns : tie.Need-returns
 returns c = rw (c .if1 .taken)

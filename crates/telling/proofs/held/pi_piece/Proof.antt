@@ -2,8 +2,6 @@
 use borrow.Author.Needs.{needs}
 use Rattle.telling.proofs.held.pi_piece.Statement.{statement}
 use Rattle.telling.proofs.held.pi_piece.Tie as tie
-use Rattle.telling.proofs.held.pi_piece.Reads as reads
-use Rattle.telling.proofs.held.pi_piece.Lts as lts
 
 enum-known-held : tie.Need-enum-known-held
 enum-known-held c = search needs

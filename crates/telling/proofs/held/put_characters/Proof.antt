@@ -9,9 +9,6 @@ use Rattle.telling.proofs.Sizes.{character-most}
 use borrow.Author.Needs.{needs}
 use Rattle.telling.proofs.held.put_characters.Statement.{statement}
 use Rattle.telling.proofs.held.put_characters.Tie as tie
-use Rattle.telling.proofs.held.put_characters.Reads as reads
-use Rattle.telling.proofs.held.put_characters.Lts as lts
-use Rattle.telling.proofs.letters.put_character.Reads as put-character-reads
 
 abbrev Inv-loop : tie.InvT-loop
 Inv-loop characters out₀ at next₀ i₀ out next i =

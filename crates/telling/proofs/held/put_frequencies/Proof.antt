@@ -10,11 +10,6 @@ use Rattle.telling.proofs.Buffers.{wrote-none, wrote-two}
 use borrow.Author.Needs.{needs}
 use Rattle.telling.proofs.held.put_frequencies.Statement.{statement}
 use Rattle.telling.proofs.held.put_frequencies.Tie as tie
-use Rattle.telling.proofs.held.put_frequencies.Reads as reads
-use Rattle.telling.proofs.held.put_frequencies.Lts as lts
-use Rattle.frequencies.proofs.at.Reads as at-reads
-use Rattle.frequencies.proofs.held.Reads as held-reads
-use Rattle.telling.proofs.held.put_frequency.Reads as put-frequency-reads
 
 abbrev Inv-loop : tie.InvT-loop
 Inv-loop list out₀ at count next₀ i₀ out next i =

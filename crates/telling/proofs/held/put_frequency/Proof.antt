@@ -4,10 +4,6 @@ use Rattle.telling.proofs.Buffers.{wrote-two}
 use borrow.Author.Needs.{needs}
 use Rattle.telling.proofs.held.put_frequency.Statement.{statement}
 use Rattle.telling.proofs.held.put_frequency.Tie as tie
-use Rattle.telling.proofs.held.put_frequency.Reads as reads
-use Rattle.telling.proofs.held.put_frequency.Lts as lts
-use Rattle.telling.proofs.letters.put_byte.Reads as put-byte-reads
-use Rattle.telling.proofs.letters.put_number.Reads as put-number-reads
 
 put-byte-requires : tie.Need-put-byte-requires
 put-byte-requires c κs = search needs

@@ -9,10 +9,6 @@ use Rattle.telling.proofs.Buffers.{Turn, turn-first, turn-next, turn-la
 use borrow.Author.Needs.{needs}
 use Rattle.telling.proofs.held.put_marks.Statement.{statement}
 use Rattle.telling.proofs.held.put_marks.Tie as tie
-use Rattle.telling.proofs.held.put_marks.Reads as reads
-use Rattle.telling.proofs.held.put_marks.Lts as lts
-use Rattle.telling.proofs.held.mark.Reads as mark-reads
-use Rattle.telling.proofs.letters.put_byte.Reads as put-byte-reads
 
 abbrev Inv-loop : tie.InvT-loop
 Inv-loop seen out₀ at next₀ i₀ out next i =

@@ -5,13 +5,6 @@ use Rattle.telling.proofs.Buffers.{wrote-two}
 use borrow.Author.Needs.{needs}
 use Rattle.telling.proofs.held.put_name.Statement.{statement}
 use Rattle.telling.proofs.held.put_name.Tie as tie
-use Rattle.telling.proofs.held.put_name.Reads as reads
-use Rattle.telling.proofs.held.put_name.Lts as lts
-use Rattle.station.proofs.read.name_characters.Reads as name-characters-reads
-use Rattle.station.proofs.read.name_seen.Reads as name-seen-reads
-use Rattle.telling.proofs.held.put_shown.Reads as put-shown-reads
-use Rattle.telling.proofs.held.station_line.Reads as station-line-reads
-use Rattle.telling.proofs.pieces.put_line.Reads as put-line-reads
 
 station-line-requires : tie.Need-station-line-requires
 station-line-requires c κs = search needs

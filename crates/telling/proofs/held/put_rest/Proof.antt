@@ -5,16 +5,6 @@ use Rattle.telling.proofs.Buffers.{wrote-two}
 use borrow.Author.Needs.{needs}
 use Rattle.telling.proofs.held.put_rest.Statement.{statement}
 use Rattle.telling.proofs.held.put_rest.Tie as tie
-use Rattle.telling.proofs.held.put_rest.Reads as reads
-use Rattle.telling.proofs.held.put_rest.Lts as lts
-use Rattle.clock.proofs.local_date.Reads as local-date-reads
-use Rattle.station.proofs.read.af_list.Reads as af-list-reads
-use Rattle.station.proofs.read.held_clock.Reads as held-clock-reads
-use Rattle.telling.proofs.held.list_line.Reads as list-line-reads
-use Rattle.telling.proofs.held.put_frequencies.Reads as put-frequencies-reads
-use Rattle.telling.proofs.lines.clock_line.Reads as clock-line-reads
-use Rattle.telling.proofs.lines.local_line.Reads as local-line-reads
-use Rattle.telling.proofs.pieces.put_line.Reads as put-line-reads
 
 list-line-requires : tie.Need-list-line-requires
 list-line-requires c κs = search needs

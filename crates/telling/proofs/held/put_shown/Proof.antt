@@ -4,12 +4,6 @@ use Rattle.telling.proofs.Buffers.{wrote-two}
 use borrow.Author.Needs.{needs}
 use Rattle.telling.proofs.held.put_shown.Statement.{statement}
 use Rattle.telling.proofs.held.put_shown.Tie as tie
-use Rattle.telling.proofs.held.put_shown.Reads as reads
-use Rattle.telling.proofs.held.put_shown.Lts as lts
-use Rattle.telling.proofs.held.one_word.Reads as one-word-reads
-use Rattle.telling.proofs.held.put_characters.Reads as put-characters-reads
-use Rattle.telling.proofs.held.put_marks.Reads as put-marks-reads
-use Rattle.telling.proofs.pieces.put_line.Reads as put-line-reads
 
 put-characters-requires : tie.Need-put-characters-requires
 put-characters-requires c κs = search needs

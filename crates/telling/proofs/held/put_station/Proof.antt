@@ -5,11 +5,6 @@ use Rattle.telling.proofs.Buffers.{wrote-two}
 use borrow.Author.Needs.{needs}
 use Rattle.telling.proofs.held.put_station.Statement.{statement}
 use Rattle.telling.proofs.held.put_station.Tie as tie
-use Rattle.telling.proofs.held.put_station.Reads as reads
-use Rattle.telling.proofs.held.put_station.Lts as lts
-use Rattle.telling.proofs.held.put_name.Reads as put-name-reads
-use Rattle.telling.proofs.held.put_rest.Reads as put-rest-reads
-use Rattle.telling.proofs.held.put_text.Reads as put-text-reads
 
 put-name-requires : tie.Need-put-name-requires
 put-name-requires c κs = search needs

@@ -5,13 +5,6 @@ use Rattle.telling.proofs.Buffers.{wrote-two}
 use borrow.Author.Needs.{needs}
 use Rattle.telling.proofs.held.put_text.Statement.{statement}
 use Rattle.telling.proofs.held.put_text.Tie as tie
-use Rattle.telling.proofs.held.put_text.Reads as reads
-use Rattle.telling.proofs.held.put_text.Lts as lts
-use Rattle.station.proofs.read.text_characters.Reads as text-characters-reads
-use Rattle.station.proofs.read.text_seen.Reads as text-seen-reads
-use Rattle.telling.proofs.held.one_word.Reads as one-word-reads
-use Rattle.telling.proofs.held.put_shown.Reads as put-shown-reads
-use Rattle.telling.proofs.pieces.put_line.Reads as put-line-reads
 
 one-word-requires : tie.Need-one-word-requires
 one-word-requires c κs = search needs

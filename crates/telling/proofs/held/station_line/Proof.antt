@@ -2,13 +2,6 @@
 use borrow.Author.Needs.{needs}
 use Rattle.telling.proofs.held.station_line.Statement.{statement}
 use Rattle.telling.proofs.held.station_line.Tie as tie
-use Rattle.telling.proofs.held.station_line.Reads as reads
-use Rattle.telling.proofs.held.station_line.Lts as lts
-use Rattle.station.proofs.read.pi.Reads as pi-reads
-use Rattle.station.proofs.read.pty.Reads as pty-reads
-use Rattle.station.proofs.read.tp.Reads as tp-reads
-use Rattle.telling.proofs.held.pi_piece.Reads as pi-piece-reads
-use Rattle.telling.proofs.lines.bit.Reads as bit-reads
 
 array-set-from-line : tie.Need-array-set-from-line
 array-set-from-line c = search needs

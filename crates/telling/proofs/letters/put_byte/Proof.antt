@@ -3,8 +3,6 @@ use Rattle.telling.proofs.Buffers.{wrote-byte}
 use borrow.Author.Needs.{needs}
 use Rattle.telling.proofs.letters.put_byte.Statement.{statement}
 use Rattle.telling.proofs.letters.put_byte.Tie as tie
-use Rattle.telling.proofs.letters.put_byte.Reads as reads
-use Rattle.telling.proofs.letters.put_byte.Lts as lts
 
 slice-write-out : tie.Need-slice-write-out
 slice-write-out c = search needs

@@ -1,5 +1,5 @@
 -- `telling::letters::put_bytes` meets its promise: before turn i the first i bytes are pasted in.
-use Prim.Native.Nat.{ℕ, _≤_, _-_, _+_}
+use Prim.Native.Nat.{_≤_, _-_}
 use mathlib.Core.Path.{_≡_, ap, _∙_}
 use native.Mathlib.Omega.{arith}
 use native.Mathlib.Numerals.{add-one}
@@ -9,8 +9,6 @@ use Rattle.telling.specs.Letters.{written}
 use borrow.Author.Needs.{needs}
 use Rattle.telling.proofs.letters.put_bytes.Statement.{statement}
 use Rattle.telling.proofs.letters.put_bytes.Tie as tie
-use Rattle.telling.proofs.letters.put_bytes.Reads as reads
-use Rattle.telling.proofs.letters.put_bytes.Lts as lts
 
 abbrev Inv-loop : tie.InvT-loop
 Inv-loop bytes out₀ at i₀ out i = (i ≤ length bytes) × (out ≡ paste out₀ at bytes i)

@@ -5,11 +5,6 @@ use Rattle.telling.proofs.Buffers.{wrote-two}
 use borrow.Author.Needs.{needs}
 use Rattle.telling.proofs.letters.put_character.Statement.{statement}
 use Rattle.telling.proofs.letters.put_character.Tie as tie
-use Rattle.telling.proofs.letters.put_character.Reads as reads
-use Rattle.telling.proofs.letters.put_character.Lts as lts
-use Rattle.telling.proofs.letters.is_shown.Reads as is-shown-reads
-use Rattle.telling.proofs.letters.put_byte.Reads as put-byte-reads
-use Rattle.telling.proofs.letters.put_two.Reads as put-two-reads
 
 is-shown-requires : tie.Need-is-shown-requires
 is-shown-requires c κs = search needs

@@ -5,9 +5,6 @@ use Rattle.telling.proofs.Buffers.{wrote-two}
 use borrow.Author.Needs.{needs}
 use Rattle.telling.proofs.letters.put_hex.Statement.{statement}
 use Rattle.telling.proofs.letters.put_hex.Tie as tie
-use Rattle.telling.proofs.letters.put_hex.Reads as reads
-use Rattle.telling.proofs.letters.put_hex.Lts as lts
-use Rattle.telling.proofs.letters.put_two.Reads as put-two-reads
 
 cast-put-two : tie.Need-cast-put-two
 cast-put-two c = search needs

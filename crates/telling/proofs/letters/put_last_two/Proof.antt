@@ -4,9 +4,6 @@ use Rattle.telling.proofs.Buffers.{wrote-two}
 use borrow.Author.Needs.{needs}
 use Rattle.telling.proofs.letters.put_last_two.Statement.{statement}
 use Rattle.telling.proofs.letters.put_last_two.Tie as tie
-use Rattle.telling.proofs.letters.put_last_two.Reads as reads
-use Rattle.telling.proofs.letters.put_last_two.Lts as lts
-use Rattle.telling.proofs.letters.put_byte.Reads as put-byte-reads
 
 add-put-byte : tie.Need-add-put-byte
 add-put-byte c = search needs

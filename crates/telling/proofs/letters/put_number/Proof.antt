@@ -4,9 +4,6 @@ use Rattle.telling.proofs.Digits.{count-most}
 use borrow.Author.Needs.{needs}
 use Rattle.telling.proofs.letters.put_number.Statement.{statement}
 use Rattle.telling.proofs.letters.put_number.Tie as tie
-use Rattle.telling.proofs.letters.put_number.Reads as reads
-use Rattle.telling.proofs.letters.put_number.Lts as lts
-use Rattle.telling.proofs.letters.put_digits.Reads as put-digits-reads
 
 put-digits-requires : tie.Need-put-digits-requires
 put-digits-requires c κs =

@@ -4,10 +4,6 @@ use Rattle.telling.proofs.Buffers.{wrote-two}
 use borrow.Author.Needs.{needs}
 use Rattle.telling.proofs.letters.put_two.Statement.{statement}
 use Rattle.telling.proofs.letters.put_two.Tie as tie
-use Rattle.telling.proofs.letters.put_two.Reads as reads
-use Rattle.telling.proofs.letters.put_two.Lts as lts
-use Rattle.telling.proofs.letters.hex_digit.Reads as hex-digit-reads
-use Rattle.telling.proofs.letters.put_byte.Reads as put-byte-reads
 
 hex-digit-requires : tie.Need-hex-digit-requires
 hex-digit-requires c κs = search needs

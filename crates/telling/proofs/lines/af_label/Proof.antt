@@ -2,8 +2,6 @@
 use borrow.Author.Needs.{needs}
 use Rattle.telling.proofs.lines.af_label.Statement.{statement}
 use Rattle.telling.proofs.lines.af_label.Tie as tie
-use Rattle.telling.proofs.lines.af_label.Reads as reads
-use Rattle.telling.proofs.lines.af_label.Lts as lts
 
 enum-told : tie.Need-enum-told
 enum-told c = search needs

@@ -2,8 +2,6 @@
 use borrow.Author.Needs.{needs}
 use Rattle.telling.proofs.lines.af_piece.Statement.{statement}
 use Rattle.telling.proofs.lines.af_piece.Tie as tie
-use Rattle.telling.proofs.lines.af_piece.Reads as reads
-use Rattle.telling.proofs.lines.af_piece.Lts as lts
 
 enum-known-answer : tie.Need-enum-known-answer
 enum-known-answer c = search needs

@@ -1,8 +1,6 @@
 -- `telling::lines::bit` meets its promise: by the flag.
 use Rattle.telling.proofs.lines.bit.Statement.{statement}
 use Rattle.telling.proofs.lines.bit.Tie as tie
-use Rattle.telling.proofs.lines.bit.Reads as reads
-use Rattle.telling.proofs.lines.bit.Lts as lts
 
 returns : tie.Need-returns
 returns c = rw (c .if1 .taken)

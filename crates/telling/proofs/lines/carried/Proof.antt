@@ -2,12 +2,6 @@
 use borrow.Author.Needs.{needs}
 use Rattle.telling.proofs.lines.carried.Statement.{statement}
 use Rattle.telling.proofs.lines.carried.Tie as tie
-use Rattle.telling.proofs.lines.carried.Reads as reads
-use Rattle.telling.proofs.lines.carried.Lts as lts
-use Rattle.groups.proofs.fields.content_of.Reads as content-of-reads
-use Rattle.groups.proofs.is_all_good.Reads as is-all-good-reads
-use Rattle.telling.proofs.lines.clock_of.Reads as clock-of-reads
-use Rattle.telling.proofs.lines.content_line.Reads as content-line-reads
 
 is-all-good-requires : tie.Need-is-all-good-requires
 is-all-good-requires c κs = search needs

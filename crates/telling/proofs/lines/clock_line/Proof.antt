@@ -2,9 +2,6 @@
 use borrow.Author.Needs.{needs}
 use Rattle.telling.proofs.lines.clock_line.Statement.{statement}
 use Rattle.telling.proofs.lines.clock_line.Tie as tie
-use Rattle.telling.proofs.lines.clock_line.Reads as reads
-use Rattle.telling.proofs.lines.clock_line.Lts as lts
-use Rattle.telling.proofs.lines.sign.Reads as sign-reads
 
 array-set-from-line : tie.Need-array-set-from-line
 array-set-from-line c = search needs

@@ -2,10 +2,6 @@
 use borrow.Author.Needs.{needs}
 use Rattle.telling.proofs.lines.clock_of.Statement.{statement}
 use Rattle.telling.proofs.lines.clock_of.Tie as tie
-use Rattle.telling.proofs.lines.clock_of.Reads as reads
-use Rattle.telling.proofs.lines.clock_of.Lts as lts
-use Rattle.clock.proofs.read.Reads as read-reads
-use Rattle.groups.proofs.word.Reads as word-reads
 
 word-requires : tie.Need-word-requires
 word-requires c κs = search needs

@@ -2,11 +2,6 @@
 use borrow.Author.Needs.{needs}
 use Rattle.telling.proofs.lines.closing_line.Statement.{statement}
 use Rattle.telling.proofs.lines.closing_line.Tie as tie
-use Rattle.telling.proofs.lines.closing_line.Reads as reads
-use Rattle.telling.proofs.lines.closing_line.Lts as lts
-use Rattle.clock.proofs.local_date.Reads as local-date-reads
-use Rattle.telling.proofs.lines.ending.Reads as ending-reads
-use Rattle.telling.proofs.lines.local_line.Reads as local-line-reads
 
 enum-told : tie.Need-enum-told
 enum-told c = search needs

@@ -2,15 +2,6 @@
 use borrow.Author.Needs.{needs}
 use Rattle.telling.proofs.lines.content_line.Statement.{statement}
 use Rattle.telling.proofs.lines.content_line.Tie as tie
-use Rattle.telling.proofs.lines.content_line.Reads as reads
-use Rattle.telling.proofs.lines.content_line.Lts as lts
-use Rattle.groups.proofs.fields.first.Reads as first-reads
-use Rattle.groups.proofs.fields.second.Reads as second-reads
-use Rattle.telling.proofs.lines.clock_line.Reads as clock-line-reads
-use Rattle.telling.proofs.lines.name.Reads as name-reads
-use Rattle.telling.proofs.lines.name_with_af.Reads as name-with-af-reads
-use Rattle.telling.proofs.lines.text_of_four.Reads as text-of-four-reads
-use Rattle.telling.proofs.lines.text_of_two.Reads as text-of-two-reads
 
 enum-known-content : tie.Need-enum-known-content
 enum-known-content c = search needs

@@ -2,11 +2,6 @@
 use borrow.Author.Needs.{needs}
 use Rattle.telling.proofs.lines.head.Statement.{statement}
 use Rattle.telling.proofs.lines.head.Tie as tie
-use Rattle.telling.proofs.lines.head.Reads as reads
-use Rattle.telling.proofs.lines.head.Lts as lts
-use Rattle.telling.proofs.lines.type_piece.Reads as type-piece-reads
-use Rattle.telling.proofs.lines.version_piece.Reads as version-piece-reads
-use Rattle.telling.proofs.lines.word_piece.Reads as word-piece-reads
 
 type-piece-requires : tie.Need-type-piece-requires
 type-piece-requires c κs = search needs

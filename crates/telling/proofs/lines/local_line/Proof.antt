@@ -2,8 +2,6 @@
 use borrow.Author.Needs.{needs}
 use Rattle.telling.proofs.lines.local_line.Statement.{statement}
 use Rattle.telling.proofs.lines.local_line.Tie as tie
-use Rattle.telling.proofs.lines.local_line.Reads as reads
-use Rattle.telling.proofs.lines.local_line.Lts as lts
 
 array-set-from-line : tie.Need-array-set-from-line
 array-set-from-line c = search needs

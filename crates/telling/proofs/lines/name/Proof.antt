@@ -2,10 +2,6 @@
 use borrow.Author.Needs.{needs}
 use Rattle.telling.proofs.lines.name.Statement.{statement}
 use Rattle.telling.proofs.lines.name.Tie as tie
-use Rattle.telling.proofs.lines.name.Reads as reads
-use Rattle.telling.proofs.lines.name.Lts as lts
-use Rattle.telling.proofs.lines.first.Reads as first-reads
-use Rattle.telling.proofs.lines.second.Reads as second-reads
 
 first-requires : tie.Need-first-requires
 first-requires c κs = search needs

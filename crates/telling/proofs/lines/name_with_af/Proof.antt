@@ -2,12 +2,6 @@
 use borrow.Author.Needs.{needs}
 use Rattle.telling.proofs.lines.name_with_af.Statement.{statement}
 use Rattle.telling.proofs.lines.name_with_af.Tie as tie
-use Rattle.telling.proofs.lines.name_with_af.Reads as reads
-use Rattle.telling.proofs.lines.name_with_af.Lts as lts
-use Rattle.frequencies.proofs.frequency.Reads as frequency-reads
-use Rattle.telling.proofs.lines.af_label.Reads as af-label-reads
-use Rattle.telling.proofs.lines.af_piece.Reads as af-piece-reads
-use Rattle.telling.proofs.lines.name.Reads as name-reads
 
 frequency-requires : tie.Need-frequency-requires
 frequency-requires c κs = search needs

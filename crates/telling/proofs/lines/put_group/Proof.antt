@@ -5,12 +5,6 @@ use Rattle.telling.proofs.Buffers.{wrote-two}
 use borrow.Author.Needs.{needs}
 use Rattle.telling.proofs.lines.put_group.Statement.{statement}
 use Rattle.telling.proofs.lines.put_group.Tie as tie
-use Rattle.telling.proofs.lines.put_group.Reads as reads
-use Rattle.telling.proofs.lines.put_group.Lts as lts
-use Rattle.telling.proofs.lines.carried.Reads as carried-reads
-use Rattle.telling.proofs.lines.closing.Reads as closing-reads
-use Rattle.telling.proofs.lines.head.Reads as head-reads
-use Rattle.telling.proofs.pieces.put_line.Reads as put-line-reads
 
 head-requires : tie.Need-head-requires
 head-requires c κs = search needs

@@ -1,8 +1,6 @@
 -- `telling::lines::sign` meets its promise: by the sign.
 use Rattle.telling.proofs.lines.sign.Statement.{statement}
 use Rattle.telling.proofs.lines.sign.Tie as tie
-use Rattle.telling.proofs.lines.sign.Reads as reads
-use Rattle.telling.proofs.lines.sign.Lts as lts
 
 returns : tie.Need-returns
 returns c = rw (c .if1 .taken)

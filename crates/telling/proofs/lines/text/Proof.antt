@@ -2,11 +2,6 @@
 use borrow.Author.Needs.{needs}
 use Rattle.telling.proofs.lines.text.Statement.{statement}
 use Rattle.telling.proofs.lines.text.Tie as tie
-use Rattle.telling.proofs.lines.text.Reads as reads
-use Rattle.telling.proofs.lines.text.Lts as lts
-use Rattle.telling.proofs.lines.bit.Reads as bit-reads
-use Rattle.telling.proofs.lines.first.Reads as first-reads
-use Rattle.telling.proofs.lines.second.Reads as second-reads
 
 bit-requires : tie.Need-bit-requires
 bit-requires c κs = search needs

@@ -2,11 +2,6 @@
 use borrow.Author.Needs.{needs}
 use Rattle.telling.proofs.lines.text_of_four.Statement.{statement}
 use Rattle.telling.proofs.lines.text_of_four.Tie as tie
-use Rattle.telling.proofs.lines.text_of_four.Reads as reads
-use Rattle.telling.proofs.lines.text_of_four.Lts as lts
-use Rattle.telling.proofs.lines.first.Reads as first-reads
-use Rattle.telling.proofs.lines.second.Reads as second-reads
-use Rattle.telling.proofs.lines.text.Reads as text-reads
 
 text-requires : tie.Need-text-requires
 text-requires c κs = search needs

@@ -2,9 +2,6 @@
 use borrow.Author.Needs.{needs}
 use Rattle.telling.proofs.lines.text_of_two.Statement.{statement}
 use Rattle.telling.proofs.lines.text_of_two.Tie as tie
-use Rattle.telling.proofs.lines.text_of_two.Reads as reads
-use Rattle.telling.proofs.lines.text_of_two.Lts as lts
-use Rattle.telling.proofs.lines.text.Reads as text-reads
 
 text-requires : tie.Need-text-requires
 text-requires c κs = search needs

@@ -2,10 +2,6 @@
 use borrow.Author.Needs.{needs}
 use Rattle.telling.proofs.lines.version_piece.Statement.{statement}
 use Rattle.telling.proofs.lines.version_piece.Tie as tie
-use Rattle.telling.proofs.lines.version_piece.Reads as reads
-use Rattle.telling.proofs.lines.version_piece.Lts as lts
-use Rattle.groups.proofs.good.Reads as good-reads
-use Rattle.groups.proofs.word.Reads as word-reads
 
 good-requires : tie.Need-good-requires
 good-requires c κs = search needs

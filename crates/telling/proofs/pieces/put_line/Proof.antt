@@ -9,9 +9,6 @@ use Rattle.telling.proofs.Buffers.{Turn, turn-first, turn-next, turn-la
 use borrow.Author.Needs.{needs}
 use Rattle.telling.proofs.pieces.put_line.Statement.{statement}
 use Rattle.telling.proofs.pieces.put_line.Tie as tie
-use Rattle.telling.proofs.pieces.put_line.Reads as reads
-use Rattle.telling.proofs.pieces.put_line.Lts as lts
-use Rattle.telling.proofs.pieces.put_piece.Reads as put-piece-reads
 
 abbrev Inv-loop : tie.InvT-loop
 Inv-loop out₀ at line next₀ i₀ out next i =

@@ -5,13 +5,6 @@ use Rattle.telling.proofs.Sizes.{hex-most, character-most}
 use borrow.Author.Needs.{needs}
 use Rattle.telling.proofs.pieces.put_piece.Statement.{statement}
 use Rattle.telling.proofs.pieces.put_piece.Tie as tie
-use Rattle.telling.proofs.pieces.put_piece.Reads as reads
-use Rattle.telling.proofs.pieces.put_piece.Lts as lts
-use Rattle.telling.proofs.letters.put_character.Reads as put-character-reads
-use Rattle.telling.proofs.letters.put_hex.Reads as put-hex-reads
-use Rattle.telling.proofs.letters.put_last_two.Reads as put-last-two-reads
-use Rattle.telling.proofs.letters.put_number.Reads as put-number-reads
-use Rattle.telling.proofs.letters.put_word.Reads as put-word-reads
 
 enum-known-piece : tie.Need-enum-known-piece
 enum-known-piece c = search needs

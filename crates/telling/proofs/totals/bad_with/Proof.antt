@@ -2,10 +2,6 @@
 use borrow.Author.Needs.{needs}
 use Rattle.telling.proofs.totals.bad_with.Statement.{statement}
 use Rattle.telling.proofs.totals.bad_with.Tie as tie
-use Rattle.telling.proofs.totals.bad_with.Reads as reads
-use Rattle.telling.proofs.totals.bad_with.Lts as lts
-use Rattle.groups.proofs.is_all_good.Reads as is-all-good-reads
-use Rattle.telling.proofs.totals.more.Reads as more-reads
 
 is-all-good-requires : tie.Need-is-all-good-requires
 is-all-good-requires c κs = search needs

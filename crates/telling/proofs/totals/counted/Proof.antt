@@ -2,11 +2,6 @@
 use borrow.Author.Needs.{needs}
 use Rattle.telling.proofs.totals.counted.Statement.{statement}
 use Rattle.telling.proofs.totals.counted.Tie as tie
-use Rattle.telling.proofs.totals.counted.Reads as reads
-use Rattle.telling.proofs.totals.counted.Lts as lts
-use Rattle.telling.proofs.totals.with_group.Reads as with-group-reads
-use Rattle.telling.proofs.totals.with_lock.Reads as with-lock-reads
-use Rattle.telling.proofs.totals.with_loss.Reads as with-loss-reads
 
 enum-told : tie.Need-enum-told
 enum-told c = search needs

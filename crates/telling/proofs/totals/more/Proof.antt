@@ -4,8 +4,6 @@ use borrow.Author.Tests.{lt-ltb, le-ltb}
 use borrow.Author.Needs.{needs}
 use Rattle.telling.proofs.totals.more.Statement.{statement}
 use Rattle.telling.proofs.totals.more.Tie as tie
-use Rattle.telling.proofs.totals.more.Reads as reads
-use Rattle.telling.proofs.totals.more.Lts as lts
 
 add-result : tie.Need-add-result
 add-result c = search needs

@@ -2,10 +2,6 @@
 use borrow.Author.Needs.{needs}
 use Rattle.telling.proofs.totals.with_group.Statement.{statement}
 use Rattle.telling.proofs.totals.with_group.Tie as tie
-use Rattle.telling.proofs.totals.with_group.Reads as reads
-use Rattle.telling.proofs.totals.with_group.Lts as lts
-use Rattle.telling.proofs.totals.bad_with.Reads as bad-with-reads
-use Rattle.telling.proofs.totals.more.Reads as more-reads
 
 more-requires : tie.Need-more-requires
 more-requires c κs = search needs

@@ -2,9 +2,6 @@
 use borrow.Author.Needs.{needs}
 use Rattle.telling.proofs.totals.with_loss.Statement.{statement}
 use Rattle.telling.proofs.totals.with_loss.Tie as tie
-use Rattle.telling.proofs.totals.with_loss.Reads as reads
-use Rattle.telling.proofs.totals.with_loss.Lts as lts
-use Rattle.telling.proofs.totals.more.Reads as more-reads
 
 more-requires : tie.Need-more-requires
 more-requires c κs = search needs
