@@ -17,6 +17,14 @@ use groups::Group;
 use station::Record;
 use totals::Counts;
 
+// Room for any line of pieces, for a group's line, and for all that is held of a station: a text is written there first,
+// so that a buffer that is too short stays as it is.
+const LINE_ROOM: usize = 320;
+
+const GROUP_ROOM: usize = 1024;
+
+const STATION_ROOM: usize = 7919;
+
 // Whether a text was written into a buffer: so many characters, or refusal 8.
 pub enum Told {
     Written(usize),
@@ -38,7 +46,7 @@ fn handed(text: &[u8], out: &mut [u8]) -> Told
 pub fn lock(bit: u64, out: &mut [u8]) -> Told
     ensures { λ r. ⌜ Tells (lineText (lockLine bit)) (now (out .entry)) r (now (out .exit)) ⌝ }
 {
-    let mut own = [0u8; 320];
+    let mut own = [0u8; LINE_ROOM];
     let length = pieces::put_line(lines::lock(bit), &mut own, 0);
     handed(&own[..length], out)
 }
@@ -47,7 +55,7 @@ pub fn lock(bit: u64, out: &mut [u8]) -> Told
 pub fn lost(bit: u64, out: &mut [u8]) -> Told
     ensures { λ r. ⌜ Tells (lineText (lostLine bit)) (now (out .entry)) r (now (out .exit)) ⌝ }
 {
-    let mut own = [0u8; 320];
+    let mut own = [0u8; LINE_ROOM];
     let length = pieces::put_line(lines::lost(bit), &mut own, 0);
     handed(&own[..length], out)
 }
@@ -56,7 +64,7 @@ pub fn lost(bit: u64, out: &mut [u8]) -> Told
 pub fn group(number: u64, group: Group, out: &mut [u8]) -> Told
     ensures { λ r. ⌜ Tells (groupText number group) (now (out .entry)) r (now (out .exit)) ⌝ }
 {
-    let mut own = [0u8; 1024];
+    let mut own = [0u8; GROUP_ROOM];
     let length = lines::put_group(number, group, &mut own);
     handed(&own[..length], out)
 }
@@ -65,7 +73,7 @@ pub fn group(number: u64, group: Group, out: &mut [u8]) -> Told
 pub fn record_lines(station: Record, out: &mut [u8]) -> Told
     ensures { λ r. ⌜ Tells (stationText station) (now (out .entry)) r (now (out .exit)) ⌝ }
 {
-    let mut own = [0u8; 7919];
+    let mut own = [0u8; STATION_ROOM];
     let length = held::put_station(station, &mut own);
     handed(&own[..length], out)
 }
@@ -74,7 +82,7 @@ pub fn record_lines(station: Record, out: &mut [u8]) -> Told
 pub fn count_lines(counts: Counts, out: &mut [u8]) -> Told
     ensures { λ r. ⌜ Tells (lineText (countsLine counts)) (now (out .entry)) r (now (out .exit)) ⌝ }
 {
-    let mut own = [0u8; 320];
+    let mut own = [0u8; LINE_ROOM];
     let length = pieces::put_line(totals::lines_of(counts), &mut own, 0);
     handed(&own[..length], out)
 }
