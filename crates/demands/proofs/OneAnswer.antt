@@ -8,9 +8,11 @@ use native.Mathlib.Omega.{arith}
 use lib.Dec.{eqb}
 use lib.Pow.{mod-pow-add}
 use borrow.Author.Tests.{eqb-true, eqb-false}
+use Rattle.telling.proofs.Exactly.{one-answer}
 use Rattle.marker.specs.Steps.{has}
 use Rattle.demands.specs.OneAnswer.{Blocks, Groups, Fields, Bytes, Frequencies, Clock, Receiver, Saving}
-use Rattle.demands.specs.OneAnswer.{Station, Held, Keys, Encoder, Marker, OneMask, NoSecondAnswer}
+use Rattle.demands.specs.OneAnswer.{Station, Held, Keys, Encoder, Marker, OneMask, Telling}
+use Rattle.demands.specs.OneAnswer.{NoSecondAnswer}
 
 equation-settles : {A : Type 0} {x y z : A} → x ≡ z → y ≡ z → x ≡ y
 equation-settles p q = p ∙ sym q
@@ -150,6 +152,19 @@ marker =
       place = λ κs a. (tt, λ r r′ e e′ p q. equation-settles p q);
     }
 
+-- what is told is settled by the text and the buffer
+telling : Telling
+telling =
+    record {
+      lock = λ κs a. (tt, λ r r′ e e′ p q. one-answer p q);
+      lost = λ κs a. (tt, λ r r′ e e′ p q. one-answer p q);
+      group = λ κs a. (tt, λ r r′ e e′ p q. one-answer p q);
+      record-lines = λ κs a. (tt, λ r r′ e e′ p q. one-answer p q);
+      count-lines = λ κs a. (tt, λ r r′ e e′ p q. one-answer p q);
+      none = λ κs a. (tt, λ r r′ e e′ p q. equation-settles p q);
+      counted = λ κs a. (tt, λ r r′ e e′ p q. equation-settles p q);
+    }
+
 -- ---- masks
 
 module _ (mask mask′ : ℕ) where
@@ -198,4 +213,5 @@ no-second-answer =
       encoder = encoder;
       marker = marker;
       seen-after = one-mask;
+      telling = telling;
     }

@@ -21,6 +21,8 @@ use Rattle.receiver.proofs.Receiver as receiver
 use Rattle.saving.proofs as saving
 use Rattle.station.proofs as station
 use Rattle.station.proofs.read as held
+use Rattle.telling.proofs as telling
+use Rattle.telling.proofs.totals as totals
 use Rattle.keys.proofs as keys
 use Rattle.encoder.proofs as encoder
 use Rattle.marker.specs.Steps.{maskBits, has}
@@ -204,6 +206,19 @@ OneMask =
     (mask mask′ : ℕ) → mask < 2 ^ maskBits → mask′ < 2 ^ maskBits
     → ((a : ℕ) → a < maskBits → has mask a ≡ has mask′ a) → mask ≡ mask′
 
+-- telling: what `listen` writes, into a buffer that is lent, and the counts
+pub record Telling : Type 0 where
+  pub lock : OneExit telling.lock.ended (λ κs e. now (e .1 .0)) telling.lock.Reads.Asked telling.lock.Reads.Learnt
+  pub lost : OneExit telling.lost.ended (λ κs e. now (e .1 .0)) telling.lost.Reads.Asked telling.lost.Reads.Learnt
+  pub group : OneExit telling.group.ended (λ κs e. now (e .1 .1 .0)) telling.group.Reads.Asked
+      telling.group.Reads.Learnt
+  pub record-lines : OneExit telling.«record_lines».ended (λ κs e. now (e .1 .0)) telling.«record_lines».Reads.Asked
+      telling.«record_lines».Reads.Learnt
+  pub count-lines : OneExit telling.«count_lines».ended (λ κs e. now (e .1 .0)) telling.«count_lines».Reads.Asked
+      telling.«count_lines».Reads.Learnt
+  pub none : OneAnswer totals.none.ended totals.none.Reads.Asked totals.none.Reads.Learnt
+  pub counted : OneAnswer totals.counted.ended totals.counted.Reads.Asked totals.counted.Reads.Learnt
+
 -- all of them
 pub record NoSecondAnswer : Type 0 where
   pub blocks : Blocks
@@ -220,3 +235,4 @@ pub record NoSecondAnswer : Type 0 where
   pub encoder : Encoder
   pub marker : Marker
   pub seen-after : OneMask
+  pub telling : Telling

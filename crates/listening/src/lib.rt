@@ -27,7 +27,7 @@ const BYTES_LIMIT: u64 = 2_305_843_009_213_693_952;
 const BYTE_BITS: u64 = 8;
 
 // Nothing has come.
-pub fn fresh() -> Ear
+fn fresh() -> Ear
     ensures { λ r. ⌜ r ≡ freshEar ⌝ }
 {
     Ear {
@@ -38,7 +38,7 @@ pub fn fresh() -> Ear
 }
 
 // After an answer: the receiver's next state, the record with the group, and the counts with the answer.
-pub fn heard(ear: Ear, taken: Advanced) -> Ear
+fn heard(ear: Ear, taken: Advanced) -> Ear
     ensures { λ r. ⌜ r ≡ heardOf ear taken ⌝ }
 {
     let next = taken.next;
@@ -54,7 +54,7 @@ pub fn heard(ear: Ear, taken: Advanced) -> Ear
 }
 
 // The number of the bit before a place, where so many bits came before the piece; numbers go round at 2 to the 64.
-pub fn bit_number(before: u64, byte: usize, bit: u8) -> u64
+fn bit_number(before: u64, byte: usize, bit: u8) -> u64
     ensures { λ r. ⌜ r ≡ (before + 8 * byte + bit + (2 ^ 64 - 1)) % 2 ^ 64 ⌝ }
 {
     let whole = (byte as u64) % BYTES_LIMIT * BYTE_BITS;
