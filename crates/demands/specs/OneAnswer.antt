@@ -21,8 +21,8 @@ use Rattle.receiver.proofs.Receiver as receiver
 use Rattle.saving.proofs as saving
 use Rattle.station.proofs as station
 use Rattle.station.proofs.read as held
+use Rattle.counts.proofs as counts
 use Rattle.telling.proofs as telling
-use Rattle.telling.proofs.totals as totals
 use Rattle.keys.proofs as keys
 use Rattle.encoder.proofs as encoder
 use Rattle.marker.specs.Steps.{maskBits, has}
@@ -216,8 +216,8 @@ pub record Telling : Type 0 where
       telling.«record_lines».Reads.Learnt
   pub count-lines : OneExit telling.«count_lines».ended (λ κs e. now (e .1 .0)) telling.«count_lines».Reads.Asked
       telling.«count_lines».Reads.Learnt
-  pub none : OneAnswer totals.none.ended totals.none.Reads.Asked totals.none.Reads.Learnt
-  pub counted : OneAnswer totals.counted.ended totals.counted.Reads.Asked totals.counted.Reads.Learnt
+  pub none : OneAnswer counts.none.ended counts.none.Reads.Asked counts.none.Reads.Learnt
+  pub counted : OneAnswer counts.counted.ended counts.counted.Reads.Asked counts.counted.Reads.Learnt
 
 -- all of them
 pub record NoSecondAnswer : Type 0 where

@@ -22,8 +22,8 @@ use Rattle.receiver.proofs.Feeds.{advance-end, feed-one, then-on, then-stop}
 use Rattle.station.specs.declared.Record.{Record}
 use Rattle.station.specs.Update.{updatedOf}
 use Rattle.station.proofs.Holding.{updated-kept}
-use Rattle.telling.specs.declared.totals.Counts.{Counts}
-use Rattle.telling.specs.Totals.{countedOf}
+use Rattle.counts.specs.declared.Counts.{Counts}
+use Rattle.counts.specs.Counts.{countedOf}
 use Rattle.listening.specs.declared.Ear.{Ear}
 use Rattle.listening.specs.Ear.{heardOf, tookOf, tookFrom, hearOf}
 

@@ -8,7 +8,7 @@ use Rattle.receiver.specs.Feeding.{byteBits}
 use Rattle.receiver.specs.declared.Advanced.{Advanced}
 use Rattle.station.specs.Record.{freshOf as freshStation}
 use Rattle.station.specs.Update.{updatedOf}
-use Rattle.telling.specs.Totals.{noCounts, countedOf}
+use Rattle.counts.specs.Counts.{noCounts, countedOf}
 use Rattle.listening.specs.declared.Ear.{Ear}
 
 -- nothing has come: the fresh record answers an empty recording

@@ -4,6 +4,7 @@ ghost use mathlib.Core.Path.{_≡_};
 ghost use Prim.Native.Nat.{_+_, _*_, _-_, _%_, _^_};
 ghost use Rattle.io.specs.Counts.{Counts as Counted};
 ghost use Rattle.listening.specs.Ear.{freshEar, heardOf, hearOf};
+use counts::Counts;
 use groups::Group;
 use libc::STDIN_FILENO;
 use libc::STDOUT_FILENO;
@@ -12,7 +13,6 @@ use receiver::Answer;
 use receiver::Receiver;
 use station::Record;
 use telling::Told;
-use telling::totals::Counts;
 
 // What is kept from bit to bit: the receiver, the station record, and the counts.
 pub struct Ear {
@@ -33,7 +33,7 @@ fn fresh() -> Ear
     Ear {
         receiver: Receiver::new(),
         station: station::fresh(),
-        counts: telling::totals::none(),
+        counts: counts::none(),
     }
 }
 
@@ -49,7 +49,7 @@ fn heard(ear: Ear, taken: Advanced) -> Ear
     Ear {
         receiver: next,
         station: station::updated(station, group),
-        counts: telling::totals::counted(counts, answer, group),
+        counts: counts::counted(counts, answer, group),
     }
 }
 

@@ -14,7 +14,7 @@ pub enum Found {
 }
 
 // The first block that is not valid as its kind.
-pub fn first_bad_block(submission: &[u8]) -> Found
+pub(crate) fn first_bad_block(submission: &[u8]) -> Found
     ensures { λ r. ⌜ r ≡ firstBadBlock (now (submission .entry)) ⌝ }
 {
     let blocks = PLACES * (submission.len() / GROUP);

@@ -29,7 +29,7 @@ enum Step {
 }
 
 // The answers 5 and 6 group by group, then 7. Words are read whatever their checks.
-pub fn mark_content(key: Key, submission: &[u8]) -> Verdict
+pub(crate) fn mark_content(key: Key, submission: &[u8]) -> Verdict
     ensures { λ r. ⌜ r ≡ contentMark (key .bytes) (now (submission .entry)) ⌝ }
 {
     let groups = submission.len() / GROUP;

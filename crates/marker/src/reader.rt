@@ -40,14 +40,14 @@ fn block<'a>(r: Reader<'a>) -> u32
 }
 
 // Block number `number` of the bytes, through a reader that is moved there.
-pub fn block_in(bytes: &[u8], number: usize) -> u32
+pub(crate) fn block_in(bytes: &[u8], number: usize) -> u32
     ensures { λ r. ⌜ r ≡ blockIn (now (bytes .entry)) number ⌝ }
 {
     block(moved(new(bytes), number))
 }
 
 // The word of a block, whatever its check.
-pub fn word_in(bytes: &[u8], number: usize) -> u16
+pub(crate) fn word_in(bytes: &[u8], number: usize) -> u16
     ensures { λ r. ⌜ r ≡ wordIn (now (bytes .entry)) number ⌝ }
 {
     (block_in(bytes, number) / CHECKS) as u16

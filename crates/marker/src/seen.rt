@@ -23,7 +23,7 @@ pub enum Held {
 }
 
 // The flag of the first 2A, once a group more has come.
-pub fn held_after(held: Held, content: Content) -> Held
+pub(crate) fn held_after(held: Held, content: Content) -> Held
     ensures { λ r. ⌜ r ≡ heldAfter held content ⌝ }
 {
     match held {
@@ -65,7 +65,7 @@ fn flag_of(content: Content) -> Held
 }
 
 // The addresses seen, once a group more has come.
-pub fn seen_after(mask: u32, content: Content) -> u32
+pub(crate) fn seen_after(mask: u32, content: Content) -> u32
     ensures { λ r. ⌜ ((a : ℕ) → a < maskBits → has r a ≡ (has mask a || brings content a)) ⌝ }
 {
     match content {
@@ -107,7 +107,7 @@ fn with_address(mask: u32, address: usize) -> u32
 }
 
 // Answer 7: the lowest wanted address that never came. Passed where there is none.
-pub fn missing(key: Key, mask: u32) -> Verdict
+pub(crate) fn missing(key: Key, mask: u32) -> Verdict
     ensures { λ r. ⌜ r ≡ missingIn (key .bytes) mask ⌝ }
 {
     let lowest = u32::trailing_zeros(!mask);

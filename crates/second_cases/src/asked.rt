@@ -2,7 +2,7 @@
 ghost use Prim.Native.Nat.{_≤_};
 
 // The byte at a place; 0 past the end.
-pub fn byte(case: &[u8], at: usize) -> u8 {
+pub(crate) fn byte(case: &[u8], at: usize) -> u8 {
     if at < case.len() {
         return case[at];
     }
@@ -10,19 +10,19 @@ pub fn byte(case: &[u8], at: usize) -> u8 {
 }
 
 // A yes or no.
-pub fn flag(case: &[u8], at: usize) -> bool {
+pub(crate) fn flag(case: &[u8], at: usize) -> bool {
     byte(case, at) == 1
 }
 
 // Two bytes.
-pub fn word(case: &[u8], at: usize) -> u16
+pub(crate) fn word(case: &[u8], at: usize) -> u16
     requires { ⌜ at ≤ 16 ⌝ }
 {
     (byte(case, at) as u16) * 256 + (byte(case, at + 1) as u16)
 }
 
 // Four bytes.
-pub fn long(case: &[u8], at: usize) -> u32
+pub(crate) fn long(case: &[u8], at: usize) -> u32
     requires { ⌜ at ≤ 16 ⌝ }
 {
     (byte(case, at) as u32) * 16777216

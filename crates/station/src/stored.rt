@@ -27,7 +27,7 @@ fn name_stored(name: Name, pair: usize, word: u16) -> Name
 }
 
 // The name after a group's content: 0A and 0B store a pair.
-pub fn with_name(name: Name, content: Content) -> Name
+pub(crate) fn with_name(name: Name, content: Content) -> Name
     ensures { λ r. ⌜ r ≡ nameAfter name content ⌝ }
 {
     match content {
@@ -85,7 +85,7 @@ fn text_for(text: Text, flag: bool) -> Text
 }
 
 // The text after a group's content: 2A stores two pairs, 2B one, after the flag was looked at.
-pub fn with_text(text: Text, content: Content) -> Text
+pub(crate) fn with_text(text: Text, content: Content) -> Text
     ensures { λ r. ⌜ r ≡ textAfter text content ⌝ }
 {
     match content {
@@ -112,7 +112,7 @@ pub fn with_text(text: Text, content: Content) -> Text
 }
 
 // The AF list after a group's content: 0A gives it a word.
-pub fn with_af(list: AfList, content: Content) -> AfList
+pub(crate) fn with_af(list: AfList, content: Content) -> AfList
     ensures { λ r. ⌜ r ≡ afListAfter list content ⌝ }
 {
     match content {
@@ -136,7 +136,7 @@ fn clock_or(came: Held, held: Held) -> Held
 }
 
 // The clock after a group's content: 4A stores one in range.
-pub fn with_clock(held: Held, content: Content, group: Group) -> Held
+pub(crate) fn with_clock(held: Held, content: Content, group: Group) -> Held
     ensures { λ r. ⌜ r ≡ clockAfter held content (wordOf group 1) (wordOf group 2) (wordOf group 3) ⌝ }
 {
     match content {

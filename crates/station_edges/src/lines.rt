@@ -133,7 +133,7 @@ fn write_date(local: Local) {
     }
 }
 
-pub fn write_record(number: usize, station: Record) {
+pub(crate) fn write_record(number: usize, station: Record) {
     write_pi(number, station::read::pi(station));
     write_programme(station::read::pty(station), station::read::tp(station));
     let name = station::read::name_characters(station);

@@ -10,12 +10,12 @@ mod held;
 mod letters;
 mod lines;
 mod pieces;
-pub mod totals;
+mod totals;
 mod words;
 
+use counts::Counts;
 use groups::Group;
 use station::Record;
-use totals::Counts;
 
 // Room for any line of pieces, for a group's line, and for all that is held of a station: a text is written there first,
 // so that a buffer that is too short stays as it is.

@@ -1,7 +1,7 @@
--- `telling::totals::with_group` meets its promise: one group more, and one bad more unless all blocks were good.
+-- `counts::with_group` meets its promise: one group more, and one bad more unless all blocks were good.
 use borrow.Author.Needs.{needs}
-use Rattle.telling.proofs.totals.with_group.Statement.{statement}
-use Rattle.telling.proofs.totals.with_group.Tie as tie
+use Rattle.counts.proofs.with_group.Statement.{statement}
+use Rattle.counts.proofs.with_group.Tie as tie
 
 more-requires : tie.Need-more-requires
 more-requires c κs = search needs

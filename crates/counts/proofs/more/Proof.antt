@@ -1,9 +1,9 @@
--- `telling::totals::more` meets its promise: by whether the count is the largest.
+-- `counts::more` meets its promise: by whether the count is the largest.
 use Prim.Native.Nat.{_-_, _^_}
 use borrow.Author.Tests.{lt-ltb, le-ltb}
 use borrow.Author.Needs.{needs}
-use Rattle.telling.proofs.totals.more.Statement.{statement}
-use Rattle.telling.proofs.totals.more.Tie as tie
+use Rattle.counts.proofs.more.Statement.{statement}
+use Rattle.counts.proofs.more.Tie as tie
 
 add-result : tie.Need-add-result
 add-result c = search needs

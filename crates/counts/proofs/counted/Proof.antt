@@ -1,7 +1,7 @@
--- `telling::totals::counted` meets its promise: by the answer.
+-- `counts::counted` meets its promise: by the answer.
 use borrow.Author.Needs.{needs}
-use Rattle.telling.proofs.totals.counted.Statement.{statement}
-use Rattle.telling.proofs.totals.counted.Tie as tie
+use Rattle.counts.proofs.counted.Statement.{statement}
+use Rattle.counts.proofs.counted.Tie as tie
 
 enum-told : tie.Need-enum-told
 enum-told c = search needs

@@ -1,7 +1,7 @@
--- `telling::totals::with_loss` meets its promise: one more.
+-- `counts::with_loss` meets its promise: one more.
 use borrow.Author.Needs.{needs}
-use Rattle.telling.proofs.totals.with_loss.Statement.{statement}
-use Rattle.telling.proofs.totals.with_loss.Tie as tie
+use Rattle.counts.proofs.with_loss.Statement.{statement}
+use Rattle.counts.proofs.with_loss.Tie as tie
 
 more-requires : tie.Need-more-requires
 more-requires c κs = search needs

@@ -1,7 +1,7 @@
--- `telling::totals::bad_with` meets its promise: by whether all blocks were good.
+-- `counts::bad_with` meets its promise: by whether all blocks were good.
 use borrow.Author.Needs.{needs}
-use Rattle.telling.proofs.totals.bad_with.Statement.{statement}
-use Rattle.telling.proofs.totals.bad_with.Tie as tie
+use Rattle.counts.proofs.bad_with.Statement.{statement}
+use Rattle.counts.proofs.bad_with.Tie as tie
 
 is-all-good-requires : tie.Need-is-all-good-requires
 is-all-good-requires c κs = search needs

@@ -1,0 +1,2 @@
+-- What the floor `counts` means.
+pub mod Counts
