@@ -1,11 +1,8 @@
 -- No second answer: nothing is asked, and each promise says that the answer is equal to a definition at the arguments,
 -- and what was lent to another. Two things that are equal to a third are equal.
-use mathlib.Core.Path.{_≡_, sym, _∙_}
+use Rattle.demands.proofs.OneAnswer.{equation-settles}
 use Rattle.capi_claims.specs.OneAnswer.{Blocks, Groups, Times, Frequencies, Marking, Hearing, Stations}
 use Rattle.capi_claims.specs.OneAnswer.{NoSecondAnswer}
-
-equation-settles : {A : Type 0} {x y z : A} → x ≡ z → y ≡ z → x ≡ y
-equation-settles p q = p ∙ sym q
 
 blocks : Blocks
 blocks =

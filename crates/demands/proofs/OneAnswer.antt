@@ -14,7 +14,8 @@ use Rattle.demands.specs.OneAnswer.{Blocks, Groups, Fields, Bytes, Frequ
 use Rattle.demands.specs.OneAnswer.{Station, Held, Keys, Encoder, Marker, OneMask, Telling}
 use Rattle.demands.specs.OneAnswer.{NoSecondAnswer}
 
-equation-settles : {A : Type 0} {x y z : A} → x ≡ z → y ≡ z → x ≡ y
+-- two things that are equal to a third
+pub equation-settles : {A : Type 0} {x y z : A} → x ≡ z → y ≡ z → x ≡ y
 equation-settles p q = p ∙ sym q
 
 blocks : Blocks
