@@ -6,6 +6,8 @@
 #[path = "cases/all.rs"]
 mod cases;
 #[allow(dead_code)]
+mod draws;
+#[allow(dead_code)]
 mod second;
 
 use cases::build::Case;

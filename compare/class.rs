@@ -1,8 +1,10 @@
 //! Writes the files that the guide's commands are run on: `class FOLDER`.
 //!
-//! A key sheet, submissions with the slips seen in class, and two recordings. Each submission is made for an answer and a
-//! place, and the second implementation must give them.
+//! A key sheet, submissions with the slips seen in class, and two recordings. Each submission is made for an answer
+//! and a place, and the second implementation must give them.
 
+#[allow(dead_code)]
+mod draws;
 #[allow(dead_code)]
 mod second;
 #[allow(dead_code)]
@@ -10,7 +12,8 @@ mod cases {
     pub mod build;
 }
 
-use cases::build::{bytes, changed, name_0b, passing, plain_key, sheet, text_2a, text_key, turned, without, Draws};
+use cases::build::{bytes, changed, name_0b, passing, plain_key, sheet, text_2a, text_key, turned, without};
+use draws::Draws;
 use second::blocks::{offset, Kind};
 use second::clock::{write as clock_words, Clock};
 use second::keys::Key;

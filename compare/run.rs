@@ -13,6 +13,8 @@ mod library;
 #[path = "receiver_cases/all.rs"]
 mod receiver_cases;
 #[allow(dead_code)]
+mod draws;
+#[allow(dead_code)]
 mod second;
 #[allow(dead_code)]
 #[path = "station_cases/all.rs"]

@@ -4,13 +4,16 @@
 //! input (exercise byte, then submission) as `stdin`, and the one line expected as `stdout`.
 
 #[allow(dead_code)]
+mod draws;
+#[allow(dead_code)]
 mod second;
 #[allow(dead_code)]
 mod cases {
     pub mod build;
 }
 
-use cases::build::{bytes, passing, plain_key, sheet, text_key, Draws};
+use cases::build::{bytes, passing, plain_key, sheet, text_key};
+use draws::Draws;
 use second::keys::Key;
 use second::program::line;
 use std::path::Path;

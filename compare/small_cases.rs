@@ -9,6 +9,8 @@
 mod cases;
 mod codes;
 #[allow(dead_code)]
+mod draws;
+#[allow(dead_code)]
 mod second;
 #[path = "small_cases/all.rs"]
 mod small_cases;

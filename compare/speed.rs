@@ -12,9 +12,12 @@ mod plain {
     pub mod receiver;
 }
 #[allow(dead_code)]
+mod draws;
+#[allow(dead_code)]
 mod second;
 
-use cases::build::{bytes, passing, sheet, text_key, Draws};
+use cases::build::{bytes, passing, sheet, text_key};
+use draws::Draws;
 use library::{STATE_BYTES, TOLD_BYTES};
 use plain::receiver::{Answer, Receiver};
 use second::groups::write_bytes;

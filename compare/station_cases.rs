@@ -5,6 +5,8 @@
 //! lines of its record, the first `stream N pi ..`, N from 0.
 
 #[allow(dead_code)]
+mod draws;
+#[allow(dead_code)]
 mod second;
 #[path = "station_cases/all.rs"]
 mod station_cases;

@@ -1,5 +1,6 @@
-//! What cases are made of: keys, groups of any type for a key, damage, and a small fixed generator.
+//! What cases are made of: keys, groups of any type for a key, damage, and drawn keys.
 
+use crate::draws::Draws;
 use crate::second::bits::{bits_of, bits_of_bytes, bytes_of_bits, sum};
 use crate::second::encoder::{groups_of, second_word, word_of_bytes};
 use crate::second::groups::write_bytes;
@@ -120,37 +121,7 @@ pub fn in_word(pattern: u16) -> u32 {
     u32::from(pattern) << 10
 }
 
-/// A small fixed generator: each draw multiplies, adds, and gives the upper half.
-pub struct Draws {
-    state: u64,
-}
-
 impl Draws {
-    pub fn from(start: u64) -> Draws {
-        Draws { state: start }
-    }
-
-    /// A number below a limit.
-    pub fn below(&mut self, limit: u32) -> u32 {
-        self.state = self.state.wrapping_mul(6_364_136_223_846_793_005).wrapping_add(1_442_695_040_888_963_407);
-        (self.state >> 32) as u32 % limit
-    }
-
-    pub fn bytes(&mut self, count: usize) -> Vec<u8> {
-        (0..count).map(|_| self.below(256) as u8).collect()
-    }
-
-    pub fn word(&mut self) -> u16 {
-        self.below(65_536) as u16
-    }
-
-    pub fn shuffled<T>(&mut self, mut list: Vec<T>) -> Vec<T> {
-        for place in (1..list.len()).rev() {
-            list.swap(place, self.below(place as u32 + 1) as usize);
-        }
-        list
-    }
-
     /// A good key.
     pub fn key(&mut self, text_wanted: bool) -> Key {
         let mut key = Key { pi: self.word(), pty: self.below(32) as u8, tp: self.below(2) == 1, ..plain_key() };

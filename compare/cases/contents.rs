@@ -1,6 +1,7 @@
 //! Contents: name pairs, text, text flags, text groups refused, what is not marked, and any order.
 
 use super::build::*;
+use crate::draws::Draws;
 
 /// Name pairs that are not the key's, in 0A and 0B.
 pub fn names() -> Vec<Case> {

@@ -1,6 +1,7 @@
 //! One block damaged: in one bit, in two bits anywhere, or within ten neighbouring bits.
 
 use super::build::*;
+use crate::draws::Draws;
 use crate::second::keys::Key;
 
 const BLOCK_BITS: u32 = 26;

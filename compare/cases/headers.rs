@@ -1,6 +1,7 @@
 //! Headers: PI, TP, PTY, and the third word of version 1, in every type of group.
 
 use super::build::*;
+use crate::draws::Draws;
 
 const TP: u16 = 0x0400;
 

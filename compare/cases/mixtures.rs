@@ -1,6 +1,7 @@
 //! What the encoder writes for several keys, and groups drawn for a key with a few of them made wrong.
 
 use super::build::*;
+use crate::draws::Draws;
 use crate::second::encoder::encode;
 use crate::second::keys::Key;
 

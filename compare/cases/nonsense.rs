@@ -1,6 +1,7 @@
 //! Bytes without meaning: submissions, the ends of submissions, and sheets.
 
 use super::build::*;
+use crate::draws::Draws;
 
 fn unmeant(sheet: Vec<u8>, exercise: u8, submission: Vec<u8>) -> Case {
     Case { sheet, exercise, submission, meant: None }

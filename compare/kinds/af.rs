@@ -1,7 +1,7 @@
 //! AF: all codes, all kHz up to 200,000, and lists of drawn words.
 
 use super::Kind as Cases;
-use crate::cases::build::Draws;
+use crate::draws::Draws;
 use crate::codes::{code_code, frequency_code, list_numbers, SLOTS};
 use crate::library;
 use crate::second::frequencies::{fresh, take};

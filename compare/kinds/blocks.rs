@@ -1,7 +1,7 @@
 //! Blocks: all words of all kinds, damaged blocks, drawn numbers of 26 bits, and numbers over 26 bits.
 
 use super::Kind as Cases;
-use crate::cases::build::Draws;
+use crate::draws::Draws;
 use crate::codes::{judge_code, kind_number, read_code};
 use crate::library;
 use crate::second::blocks::{write_number, Kind, KINDS};

@@ -1,7 +1,7 @@
 //! Clocks: read from words and written as words, in range and out of it.
 
 use super::Kind as Cases;
-use crate::cases::build::Draws;
+use crate::draws::Draws;
 use crate::codes::{read_clock_code, write_clock_code};
 use crate::library;
 use crate::second::clock::{write, Clock, FIRST_DAY, LAST_DAY};

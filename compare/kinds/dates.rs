@@ -2,7 +2,7 @@
 
 use super::clocks::drawn_clock;
 use super::Kind as Cases;
-use crate::cases::build::Draws;
+use crate::draws::Draws;
 use crate::codes::date_code;
 use crate::library;
 use crate::second::clock::{all_dates, date_by, Clock, Date, FIRST_DAY, LAST_DAY};

@@ -1,7 +1,8 @@
 //! The encoder: buffers of all lengths, and sheets and keys of every kind.
 
 use super::Kind as Cases;
-use crate::cases::build::{plain_key, record, sheet, text_key, Draws};
+use crate::cases::build::{plain_key, record, sheet, text_key};
+use crate::draws::Draws;
 use crate::library;
 use crate::second::encoder::encode;
 use crate::second::keys::{RECORD_BYTES, SHEET_LIMIT};

@@ -1,7 +1,8 @@
 //! Groups: four words into buffers of all lengths, thirteen bytes back, and the switches.
 
 use super::Kind as Cases;
-use crate::cases::build::{turned, Draws};
+use crate::cases::build::turned;
+use crate::draws::Draws;
 use crate::codes::{group_codes, switches_code};
 use crate::library;
 use crate::second::answers::BUFFER_TOO_SHORT;

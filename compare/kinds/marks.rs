@@ -1,7 +1,8 @@
 //! The marker: the cases of the case files, damage of each kind, and groups drawn for a key.
 
 use super::Kind as Cases;
-use crate::cases::build::{bytes, in_word, passing, sheet, turned, Draws};
+use crate::cases::build::{bytes, in_word, passing, sheet, turned};
+use crate::draws::Draws;
 use crate::cases::{self, mixtures};
 use crate::library;
 use crate::second::blocks::{offset, KINDS};

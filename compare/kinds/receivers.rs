@@ -2,7 +2,7 @@
 
 use super::streams;
 use super::Kind as Cases;
-use crate::cases::build::Draws;
+use crate::draws::Draws;
 use crate::library::{self, STATE_BYTES, TOLD_BYTES};
 use crate::second::answers::{BUFFER_TOO_SHORT, NOT_A_BIT};
 use crate::second::bits::bytes_of_bits;

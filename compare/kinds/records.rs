@@ -7,7 +7,8 @@ use crate::library::{self, RECORD_BYTES};
 use crate::second::answers::BUFFER_TOO_SHORT;
 use crate::second::groups::Group;
 use crate::second::station::{record_of, Record};
-use crate::station_cases::build::{group_bytes, Draws};
+use crate::station_cases::build::group_bytes;
+use crate::draws::Draws;
 use crate::station_cases::{self, drawn::drawn as drawn_groups};
 
 /// The numbers of a record, in the library's order.

@@ -1,6 +1,6 @@
 //! Streams of bits: noise, groups with bit errors from none to every second bit, slips, cuts, and the like.
 
-use crate::cases::build::Draws;
+use crate::draws::Draws;
 use crate::receiver_cases;
 use crate::second::groups::write_bits;
 

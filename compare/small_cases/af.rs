@@ -1,7 +1,7 @@
 //! AF codes, kHz and lists of eight words.
 
 use super::{one, several, Case};
-use crate::cases::build::Draws;
+use crate::draws::Draws;
 use crate::codes::{code_code, frequency_code, list_numbers};
 use crate::second::frequencies::{fresh, take};
 

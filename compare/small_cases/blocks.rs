@@ -1,7 +1,7 @@
 //! Blocks: written, read and judged.
 
 use super::{one, Case};
-use crate::cases::build::Draws;
+use crate::draws::Draws;
 use crate::codes::{judge_code, kind_number, read_code};
 use crate::second::blocks::{write_number, Kind, KINDS};
 

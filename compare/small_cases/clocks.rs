@@ -1,7 +1,7 @@
 //! Clocks read and written, and local dates.
 
 use super::{one, Case};
-use crate::cases::build::Draws;
+use crate::draws::Draws;
 use crate::codes::{date_code, read_clock_code, write_clock_code};
 use crate::second::clock::{date, write, Clock, FIRST_DAY, LAST_DAY};
 

@@ -1,7 +1,8 @@
 //! Groups as thirteen bytes and back, and the switches.
 
 use super::{one, several, Case};
-use crate::cases::build::{turned, Draws};
+use crate::cases::build::turned;
+use crate::draws::Draws;
 use crate::codes::{group_codes, switches_code};
 use crate::second::groups::{write_bytes, GROUP_BYTES};
 

@@ -1,4 +1,4 @@
-//! What streams are made of: groups of any type for a station, bad blocks, and a small fixed generator.
+//! What streams are made of: groups of any type for a station, and bad blocks.
 
 use crate::second::encoder::{second_word, word_of_bytes};
 use crate::second::groups::{group_of, Group};
@@ -70,25 +70,4 @@ pub fn group_bytes(group: &Group) -> Vec<u8> {
     let mask = group.good.iter().fold(0, |mask, &good| 2 * mask + u8::from(good));
     let words = group.words.iter().flat_map(|word| word.to_be_bytes());
     words.chain([mask]).collect()
-}
-
-/// A small fixed generator: each draw multiplies, adds, and gives the upper half.
-pub struct Draws {
-    state: u64,
-}
-
-impl Draws {
-    pub fn from(start: u64) -> Draws {
-        Draws { state: start }
-    }
-
-    /// A number below a limit.
-    pub fn below(&mut self, limit: u32) -> u32 {
-        self.state = self.state.wrapping_mul(6_364_136_223_846_793_005).wrapping_add(1_442_695_040_888_963_407);
-        (self.state >> 32) as u32 % limit
-    }
-
-    pub fn word(&mut self) -> u16 {
-        self.below(65_536) as u16
-    }
 }

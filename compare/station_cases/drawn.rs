@@ -1,6 +1,7 @@
 //! Groups of few stations drawn from a fixed generator, most of types that the record reads and a few with bad blocks.
 
-use super::build::{clock_4a, good, masked, of_station, stream, Draws, Stream};
+use super::build::{clock_4a, good, masked, of_station, stream, Stream};
+use crate::draws::Draws;
 use crate::second::encoder::second_word;
 use crate::second::groups::Group;
 
