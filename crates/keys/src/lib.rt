@@ -4,7 +4,7 @@
 ghost use mathlib.Core.Path.{_≡_};
 ghost use mathlib.Core.Bool.{cond, not};
 ghost use Prim.Native.Nat.{_+_, _*_, _≤_};
-ghost use lib.ListN.{length};
+ghost use lib.ListN.{length, getD};
 ghost use Rattle.keys.specs.Sheet.{recordSize, noKey, keyAt};
 ghost use Rattle.keys.specs.Fields.{pairOf, piOf, ptyOf, tpOf, wantedOf, namePairOf, textPairOf};
 ghost use Rattle.keys.specs.Wanted.{addressesOf, textLengthOf};
@@ -113,10 +113,7 @@ pub fn key_of(sheet: &[u8], exercise: usize) -> Asked
 pub fn pi(key: Key) -> u16
     ensures { λ r. ⌜ r ≡ piOf (key .bytes) ⌝ }
 {
-    let bytes = key.bytes;
-    let high = bytes[PI];
-    let low = bytes[PI + 1];
-    pair(high, low)
+    pair_at(key, PI)
 }
 
 // PTY.
@@ -150,11 +147,7 @@ pub fn name_pair(key: Key, a: u8) -> u16
     if a >= NAME_PAIRS {
         return 0;
     }
-    let bytes = key.bytes;
-    let at = NAME + 2 * (a as usize);
-    let high = bytes[at];
-    let low = bytes[at + 1];
-    pair(high, low)
+    pair_at(key, NAME + 2 * (a as usize))
 }
 
 // Text characters 2a and 2a + 1; 0 where the text has no pair a.
@@ -164,11 +157,7 @@ pub fn text_pair(key: Key, a: u8) -> u16
     if a >= TEXT_PAIRS {
         return 0;
     }
-    let bytes = key.bytes;
-    let at = TEXT + 2 * (a as usize);
-    let high = bytes[at];
-    let low = bytes[at + 1];
-    pair(high, low)
+    pair_at(key, TEXT + 2 * (a as usize))
 }
 
 // How many addresses are wanted: those below it.
@@ -194,6 +183,17 @@ fn pair(high: u8, low: u8) -> u16
     ensures { λ r. ⌜ r ≡ pairOf high low ⌝ }
 {
     (high as u16) * 256 + (low as u16)
+}
+
+// The two bytes of a key from byte `at` on.
+fn pair_at(key: Key, at: usize) -> u16
+    requires { ⌜ at + 2 ≤ recordSize ⌝ }
+    ensures { λ r. ⌜ r ≡ pairOf (getD (key .bytes) at 0) (getD (key .bytes) (at + 1) 0) ⌝ }
+{
+    let bytes = key.bytes;
+    let high = bytes[at];
+    let low = bytes[at + 1];
+    pair(high, low)
 }
 
 // What stands beside answers 1 and 2.

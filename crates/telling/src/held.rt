@@ -1,6 +1,6 @@
 // The station record in words.
 ghost use mathlib.Core.Path.{_≡_};
-ghost use mathlib.Core.List.{[], _∷_};
+ghost use mathlib.Core.List.{[], _∷_, _++_};
 ghost use Prim.Native.Nat.{_+_, _*_, _≤_};
 ghost use lib.ListN.{length};
 ghost use Rattle.frequencies.specs.AfList.{heldOf};
@@ -126,15 +126,18 @@ fn put_marks(seen: &[bool], out: &mut [u8], at: usize) -> usize
     next
 }
 
-// Characters, and the marks of their pairs.
-fn put_shown(characters: &[u8], seen: &[bool], out: &mut [u8], at: usize) -> usize
-    requires { ⌜ at + 4 * length (now characters) + length (now seen) + 320 ≤ length (now out) ⌝ }
-    ensures { λ r. ⌜ Wrote (now (out .entry)) at (shownText (now (characters .entry)) (now (seen .entry)))
-        (now (out .exit)) r × (r ≤ at + 4 * length (now (characters .entry)) + length (now (seen .entry)) + 320) ⌝ }
+// A line of pieces, characters behind it, and the marks of their pairs.
+fn put_shown(line: Line, characters: &[u8], seen: &[bool], out: &mut [u8], at: usize) -> usize
+    requires { ⌜ (at + 4 * length (now characters) + length (now seen) + 640 ≤ length (now out))
+        × (length line ≡ 16) ⌝ }
+    ensures { λ r. ⌜ Wrote (now (out .entry)) at
+        (lineText line ++ shownText (now (characters .entry)) (now (seen .entry))) (now (out .exit)) r
+        × (r ≤ at + 4 * length (now (characters .entry)) + length (now (seen .entry)) + 640) ⌝ }
 {
-    let one = put_characters(characters, out, at);
-    let two = pieces::put_line(one_word(words::SEEN), out, one);
-    put_marks(seen, out, two)
+    let one = pieces::put_line(line, out, at);
+    let two = put_characters(characters, out, one);
+    let three = pieces::put_line(one_word(words::SEEN), out, two);
+    put_marks(seen, out, three)
 }
 
 // PI, PTY, TP and the name.
@@ -142,10 +145,10 @@ fn put_name(station: Record, out: &mut [u8], at: usize) -> usize
     requires { ⌜ at + 676 ≤ length (now out) ⌝ }
     ensures { λ r. ⌜ Wrote (now (out .entry)) at (nameText station) (now (out .exit)) r × (r ≤ at + 676) ⌝ }
 {
-    let next = pieces::put_line(station_line(station), out, at);
+    let line = station_line(station);
     let characters = read::name_characters(station);
     let seen = read::name_seen(station);
-    put_shown(&characters, &seen, out, next)
+    put_shown(line, &characters, &seen, out, at)
 }
 
 // The text.
@@ -153,10 +156,10 @@ fn put_text(station: Record, out: &mut [u8], at: usize) -> usize
     requires { ⌜ at + 928 ≤ length (now out) ⌝ }
     ensures { λ r. ⌜ Wrote (now (out .entry)) at (textText station) (now (out .exit)) r × (r ≤ at + 928) ⌝ }
 {
-    let next = pieces::put_line(one_word(words::HELD_TEXT), out, at);
+    let line = one_word(words::HELD_TEXT);
     let characters = read::text_characters(station);
     let seen = read::text_seen(station);
-    put_shown(&characters, &seen, out, next)
+    put_shown(line, &characters, &seen, out, at)
 }
 
 // A frequency behind a space.

@@ -1,5 +1,7 @@
 // What the program `listen` writes: each line as characters in a buffer that is lent.
 // Refused, with number 8: a buffer that is too short; it is then as it was.
+ghost use mathlib.Core.Path.{_≡_};
+ghost use lib.ListN.{length};
 ghost use Rattle.telling.specs.Pieces.{lineText};
 ghost use Rattle.telling.specs.Lines.{lockLine, lostLine, groupText};
 ghost use Rattle.telling.specs.Station.{stationText};
@@ -15,10 +17,11 @@ mod words;
 
 use counts::Counts;
 use groups::Group;
+use lines::Line;
 use station::Record;
 
-// Room for any line of pieces, for a group's line, and for all that is held of a station: a text is written there first,
-// so that a buffer that is too short stays as it is.
+// Room for any line of pieces, for a group's line, and for all that is held of a station: a text is written there
+// first, so that a buffer that is too short stays as it is.
 const LINE_ROOM: usize = 320;
 
 const GROUP_ROOM: usize = 1024;
@@ -42,22 +45,28 @@ fn handed(text: &[u8], out: &mut [u8]) -> Told
     Told::Written(text.len())
 }
 
+// A line of pieces at the front of a buffer, if it has room.
+fn line_told(line: Line, out: &mut [u8]) -> Told
+    requires { ⌜ length line ≡ 16 ⌝ }
+    ensures { λ r. ⌜ Tells (lineText line) (now (out .entry)) r (now (out .exit)) ⌝ }
+{
+    let mut own = [0u8; LINE_ROOM];
+    let length = pieces::put_line(line, &mut own, 0);
+    handed(&own[..length], out)
+}
+
 // That lock was taken with a bit; the first bit of a recording is bit 0.
 pub fn lock(bit: u64, out: &mut [u8]) -> Told
     ensures { λ r. ⌜ Tells (lineText (lockLine bit)) (now (out .entry)) r (now (out .exit)) ⌝ }
 {
-    let mut own = [0u8; LINE_ROOM];
-    let length = pieces::put_line(lines::lock(bit), &mut own, 0);
-    handed(&own[..length], out)
+    line_told(lines::with_bit(words::LOCK, bit), out)
 }
 
 // That lock was lost with a bit.
 pub fn lost(bit: u64, out: &mut [u8]) -> Told
     ensures { λ r. ⌜ Tells (lineText (lostLine bit)) (now (out .entry)) r (now (out .exit)) ⌝ }
 {
-    let mut own = [0u8; LINE_ROOM];
-    let length = pieces::put_line(lines::lost(bit), &mut own, 0);
-    handed(&own[..length], out)
+    line_told(lines::with_bit(words::LOST, bit), out)
 }
 
 // The line of a group, with its number in the recording.
@@ -82,7 +91,5 @@ pub fn record_lines(station: Record, out: &mut [u8]) -> Told
 pub fn count_lines(counts: Counts, out: &mut [u8]) -> Told
     ensures { λ r. ⌜ Tells (lineText (countsLine counts)) (now (out .entry)) r (now (out .exit)) ⌝ }
 {
-    let mut own = [0u8; LINE_ROOM];
-    let length = pieces::put_line(totals::lines_of(counts), &mut own, 0);
-    handed(&own[..length], out)
+    line_told(totals::lines_of(counts), out)
 }

@@ -6,7 +6,7 @@ ghost use lib.ListN.{length, replicate};
 ghost use Rattle.groups.specs.Content.{firstOf, secondOf};
 ghost use Rattle.telling.specs.Letters.{Wrote, word};
 ghost use Rattle.telling.specs.Pieces.{lineText};
-ghost use Rattle.telling.specs.Lines.{bitPiece, lockLine, lostLine, wordPiece, typePiece, versionPiece, headLine};
+ghost use Rattle.telling.specs.Lines.{bitPiece, wordPiece, typePiece, versionPiece, headLine};
 ghost use Rattle.telling.specs.Lines.{nameLine, afLabel, afPiece, codesLine, partLine, pairLine, quote};
 ghost use Rattle.telling.specs.Lines.{signPiece, clockLine, localLine};
 ghost use Rattle.telling.specs.Lines.{contentLine, closingLine, end};
@@ -51,23 +51,12 @@ pub(crate) fn bit(flag: bool) -> Piece
     Piece::Number(0)
 }
 
-// Lock was taken.
-pub(crate) fn lock(bit: u64) -> Line
-    ensures { λ r. ⌜ lineText r ≡ lineText (lockLine bit) ⌝ }
+// A label and the number of a bit: lock was taken with it, or lost.
+pub(crate) fn with_bit(label: u64, bit: u64) -> Line
+    ensures { λ r. ⌜ lineText r ≡ lineText (Piece.Word label ∷ Piece.Number bit ∷ end ∷ []) ⌝ }
 {
     let mut line = [Piece::Silent; 16];
-    line[0] = Piece::Word(words::LOCK);
-    line[1] = Piece::Number(bit);
-    line[2] = END;
-    line
-}
-
-// Lock was lost.
-pub(crate) fn lost(bit: u64) -> Line
-    ensures { λ r. ⌜ lineText r ≡ lineText (lostLine bit) ⌝ }
-{
-    let mut line = [Piece::Silent; 16];
-    line[0] = Piece::Word(words::LOST);
+    line[0] = Piece::Word(label);
     line[1] = Piece::Number(bit);
     line[2] = END;
     line

@@ -1,5 +1,4 @@
--- `telling::count_lines` meets its promise: the lines are written into a buffer of our own, and handed over.
-use Rattle.telling.proofs.Handing.{count-front, tells-front}
+-- `telling::count_lines` meets its promise: the lines of the counts, as one line of pieces.
 use borrow.Author.Needs.{needs}
 use Rattle.telling.proofs.count_lines.Statement.{statement}
 use Rattle.telling.proofs.count_lines.Tie as tie
@@ -7,39 +6,14 @@ use Rattle.telling.proofs.count_lines.Tie as tie
 lines-of-requires : tie.Need-lines-of-requires
 lines-of-requires c κs = search needs
 
-slice-aggregate-put-line : tie.Need-slice-aggregate-put-line
-slice-aggregate-put-line c = search needs
-
-put-line-requires : tie.Need-put-line-requires
-put-line-requires c κs = search needs
-
-array-share-prefix-own : tie.Need-array-share-prefix-own
-array-share-prefix-own c = search needs
-
-slice-aggregate-handed : tie.Need-slice-aggregate-handed
-slice-aggregate-handed c = count-front _ _ (c .before .before .put-line .ensures .0)
-
-handed-requires : tie.Need-handed-requires
-handed-requires c κs = search needs
+line-told-requires : tie.Need-line-told-requires
+line-told-requires c κs = search needs
 
 same-length : tie.Need-same-length
 same-length c = search needs
 
 returns : tie.Need-returns
-returns c =
-    tells-front (c .before .before .before .before .before .before .put-line .ensures .0)
-    (c .before .before .before .before .before .before .before .before .lines-of .ensures)
-    (c .before .before .handed .ensures)
+returns c = rw (c .before .before .before .before .lines-of .ensures) at (c .before .before .line-told .ensures)
 
 pub count-lines-spec : {M : Type 1} → statement M
-count-lines-spec =
-    tie.close
-    (tie.spec
-    lines-of-requires
-    slice-aggregate-put-line
-    put-line-requires
-    array-share-prefix-own
-    slice-aggregate-handed
-    handed-requires
-    same-length
-    returns)
+count-lines-spec = tie.close (tie.spec lines-of-requires line-told-requires same-length returns)

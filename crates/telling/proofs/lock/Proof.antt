@@ -1,45 +1,19 @@
--- `telling::lock` meets its promise: its line is written into a buffer of our own, and handed over.
-use Rattle.telling.proofs.Handing.{count-front, tells-front}
+-- `telling::lock` meets its promise: the word and the number, as a line.
 use borrow.Author.Needs.{needs}
 use Rattle.telling.proofs.lock.Statement.{statement}
 use Rattle.telling.proofs.lock.Tie as tie
 
-lock-requires : tie.Need-lock-requires
-lock-requires c κs = search needs
+with-bit-requires : tie.Need-with-bit-requires
+with-bit-requires c κs = search needs
 
-slice-aggregate-put-line : tie.Need-slice-aggregate-put-line
-slice-aggregate-put-line c = search needs
-
-put-line-requires : tie.Need-put-line-requires
-put-line-requires c κs = search needs
-
-array-share-prefix-own : tie.Need-array-share-prefix-own
-array-share-prefix-own c = search needs
-
-slice-aggregate-handed : tie.Need-slice-aggregate-handed
-slice-aggregate-handed c = count-front _ _ (c .before .before .put-line .ensures .0)
-
-handed-requires : tie.Need-handed-requires
-handed-requires c κs = search needs
+line-told-requires : tie.Need-line-told-requires
+line-told-requires c κs = search needs
 
 same-length : tie.Need-same-length
 same-length c = search needs
 
 returns : tie.Need-returns
-returns c =
-    tells-front (c .before .before .before .before .before .before .put-line .ensures .0)
-    (c .before .before .before .before .before .before .before .before .lock .ensures)
-    (c .before .before .handed .ensures)
+returns c = rw (c .before .before .before .before .with-bit .ensures) at (c .before .before .line-told .ensures)
 
 pub lock-spec : {M : Type 1} → statement M
-lock-spec =
-    tie.close
-    (tie.spec
-    lock-requires
-    slice-aggregate-put-line
-    put-line-requires
-    array-share-prefix-own
-    slice-aggregate-handed
-    handed-requires
-    same-length
-    returns)
+lock-spec = tie.close (tie.spec with-bit-requires line-told-requires same-length returns)

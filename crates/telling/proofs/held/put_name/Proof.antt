@@ -1,16 +1,12 @@
--- `telling::held::put_name` meets its promise: a line of pieces, and characters with their marks behind it.
+-- `telling::held::put_name` meets its promise: its line, characters and marks.
 use native.Mathlib.Omega.{arith}
 use Rattle.telling.specs.Station.{nameText}
-use Rattle.telling.proofs.Buffers.{wrote-two}
 use borrow.Author.Needs.{needs}
 use Rattle.telling.proofs.held.put_name.Statement.{statement}
 use Rattle.telling.proofs.held.put_name.Tie as tie
 
 station-line-requires : tie.Need-station-line-requires
 station-line-requires c κs = search needs
-
-put-line-requires : tie.Need-put-line-requires
-put-line-requires c κs = search needs
 
 name-characters-requires : tie.Need-name-characters-requires
 name-characters-requires c κs = search needs
@@ -33,13 +29,11 @@ same-length c = search needs
 returns : tie.Need-returns
 unfolding nameText
 returns c = (
-  let far = c .before .before .before .before .before .before .before .before .before .before in
-      let start = far .before .before .before .before in
-      let line = rw (far .before .before .station-line .ensures) at (far .put-line .ensures .0) in
-      let seen = c .before .before .before .before .before .before .name-seen .ensures in
-      let shown = rw (c .before .before .before .before .before .before .before .name-characters .ensures, seen) at
-      (c .before .before .put-shown .ensures .0) in
-      wrote-two (start .args .out .now) (start .args .at) (omega arith) line shown,
+  rw (
+    c .before .before .before .before .before .before .before .before .station-line .ensures,
+    c .before .before .before .before .before .before .before .name-characters .ensures,
+    c .before .before .before .before .before .before .name-seen .ensures,
+  ) at (c .before .before .put-shown .ensures .0),
   omega arith,
 )
 
@@ -48,7 +42,6 @@ put-name-spec =
     tie.close
     (tie.spec
     station-line-requires
-    put-line-requires
     name-characters-requires
     name-seen-requires
     slice-aggregate-put-shown

@@ -1,16 +1,12 @@
--- `telling::held::put_text` meets its promise: a line of pieces, and characters with their marks behind it.
+-- `telling::held::put_text` meets its promise: its line, characters and marks.
 use native.Mathlib.Omega.{arith}
 use Rattle.telling.specs.Station.{textText}
-use Rattle.telling.proofs.Buffers.{wrote-two}
 use borrow.Author.Needs.{needs}
 use Rattle.telling.proofs.held.put_text.Statement.{statement}
 use Rattle.telling.proofs.held.put_text.Tie as tie
 
 one-word-requires : tie.Need-one-word-requires
 one-word-requires c κs = search needs
-
-put-line-requires : tie.Need-put-line-requires
-put-line-requires c κs = search needs
 
 text-characters-requires : tie.Need-text-characters-requires
 text-characters-requires c κs = search needs
@@ -33,13 +29,11 @@ same-length c = search needs
 returns : tie.Need-returns
 unfolding textText
 returns c = (
-  let far = c .before .before .before .before .before .before .before .before .before .before in
-      let start = far .before .before .before .before in
-      let line = rw (far .before .before .one-word .ensures) at (far .put-line .ensures .0) in
-      let seen = c .before .before .before .before .before .before .text-seen .ensures in
-      let shown = rw (c .before .before .before .before .before .before .before .text-characters .ensures, seen) at
-      (c .before .before .put-shown .ensures .0) in
-      wrote-two (start .args .out .now) (start .args .at) (omega arith) line shown,
+  rw (
+    c .before .before .before .before .before .before .before .before .one-word .ensures,
+    c .before .before .before .before .before .before .before .text-characters .ensures,
+    c .before .before .before .before .before .before .text-seen .ensures,
+  ) at (c .before .before .put-shown .ensures .0),
   omega arith,
 )
 
@@ -48,7 +42,6 @@ put-text-spec =
     tie.close
     (tie.spec
     one-word-requires
-    put-line-requires
     text-characters-requires
     text-seen-requires
     slice-aggregate-put-shown
