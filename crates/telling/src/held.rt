@@ -62,15 +62,6 @@ fn station_line(station: Record) -> Line
     line
 }
 
-// One word alone.
-fn one_word(letters: u64) -> Line
-    ensures { λ r. ⌜ lineText r ≡ lineText (Piece.Word letters ∷ []) ⌝ }
-{
-    let mut line = [Piece::Silent; 16];
-    line[0] = Piece::Word(letters);
-    line
-}
-
 // The text flag, and how many frequencies are held of those expected.
 fn list_line(station: Record) -> Line
     ensures { λ r. ⌜ lineText r ≡ lineText (listLine station) ⌝ }
@@ -136,7 +127,7 @@ fn put_shown(line: Line, characters: &[u8], seen: &[bool], out: &mut [u8], at: u
 {
     let one = pieces::put_line(line, out, at);
     let two = put_characters(characters, out, one);
-    let three = pieces::put_line(one_word(words::SEEN), out, two);
+    let three = pieces::put_line(lines::one_word(words::SEEN), out, two);
     put_marks(seen, out, three)
 }
 
@@ -156,7 +147,7 @@ fn put_text(station: Record, out: &mut [u8], at: usize) -> usize
     requires { ⌜ at + 928 ≤ length (now out) ⌝ }
     ensures { λ r. ⌜ Wrote (now (out .entry)) at (textText station) (now (out .exit)) r × (r ≤ at + 928) ⌝ }
 {
-    let line = one_word(words::HELD_TEXT);
+    let line = lines::one_word(words::HELD_TEXT);
     let characters = read::text_characters(station);
     let seen = read::text_seen(station);
     put_shown(line, &characters, &seen, out, at)

@@ -62,6 +62,15 @@ pub(crate) fn with_bit(label: u64, bit: u64) -> Line
     line
 }
 
+// One word alone.
+pub(crate) fn one_word(letters: u64) -> Line
+    ensures { λ r. ⌜ lineText r ≡ lineText (Piece.Word letters ∷ []) ⌝ }
+{
+    let mut line = [Piece::Silent; 16];
+    line[0] = Piece::Word(letters);
+    line
+}
+
 // A word of a group, or the mark of a bad place.
 fn word_piece(group: Group, place: usize) -> Piece
     ensures { λ r. ⌜ r ≡ wordPiece group place ⌝ }
@@ -324,15 +333,6 @@ fn content_line(content: Content, held: Held) -> Line
     }
 }
 
-// The end of a line, and nothing else.
-fn ending() -> Line
-    ensures { λ r. ⌜ lineText r ≡ lineText (end ∷ []) ⌝ }
-{
-    let mut line = [Piece::Silent; 16];
-    line[0] = END;
-    line
-}
-
 // How the line of a group's content ends.
 fn closing_line(content: Content, held: Held) -> Line
     ensures { λ r. ⌜ lineText r ≡ lineText (closingLine content held) ⌝ }
@@ -343,25 +343,25 @@ fn closing_line(content: Content, held: Held) -> Line
             address: _,
             af: _,
             pair: _,
-        } => ending(),
+        } => one_word(words::END),
         Content::Name0B {
             switches: _,
             address: _,
             pair: _,
-        } => ending(),
+        } => one_word(words::END),
         Content::Text2A {
             flag: _,
             address: _,
             first: _,
             second: _,
-        } => ending(),
+        } => one_word(words::END),
         Content::Text2B {
             flag: _,
             address: _,
             pair: _,
-        } => ending(),
+        } => one_word(words::END),
         Content::Clock4A => local_line(words::LOCAL, clock::local_date(held)),
-        Content::Other => ending(),
+        Content::Other => one_word(words::END),
     }
 }
 
@@ -392,7 +392,7 @@ fn closing(group: Group) -> Line
     if groups::is_all_good(group) {
         return closing_line(groups::fields::content_of(group), clock_of(group));
     }
-    ending()
+    one_word(words::END)
 }
 
 // The line of a group at the front of a buffer that has room for it.

@@ -20,11 +20,11 @@ returns c =
     rw (← c .before .before .before .before .is-all-good .ensures, c .before .before .before .if1 .taken)
     (rw (c .before .before .content-of .ensures, c .before .clock-of .ensures) at (c .closing-line .ensures))
 
-ending-requires : tie.Need-ending-requires
-ending-requires c κs = search needs
+one-word-requires : tie.Need-one-word-requires
+one-word-requires c κs = search needs
 
 returns-2 : tie.Need-returns-2
-returns-2 c = rw (← c .before .before .is-all-good .ensures, c .before .if1 .left) (c .ending .ensures)
+returns-2 c = rw (← c .before .before .is-all-good .ensures, c .before .if1 .left) (c .one-word .ensures)
 
 pub closing-spec : {M : Type 1} → statement M
 closing-spec =
@@ -35,5 +35,5 @@ closing-spec =
     clock-of-requires
     closing-line-requires
     returns
-    ending-requires
+    one-word-requires
     returns-2)
