@@ -1,10 +1,12 @@
 //! Writes the stored runs of the program `listen`: `recordings CRATESFOLDER`; and `recordings FILE SEED` writes a
 //! recording drawn at random.
 //!
-//! For each run the folder of its crate gets the recording as `stdin` and what must be written as `stdout`.
+//! A run has the recording on standard input or as a file that an argument names; what it must write is the second
+//! implementation's.
 
 #[allow(dead_code)]
 mod second;
+mod stored;
 #[allow(dead_code)]
 mod receiver_cases {
     pub mod build;
@@ -16,11 +18,16 @@ use second::blocks::BLOCK_BITS;
 use second::clock::{write, Clock};
 use second::groups::write_bits;
 use std::path::Path;
+use stored::Stored;
 
 const PI: u16 = 0xD3C2;
 
 /// The blocks of the last stretch of `roof` that are bad.
 const HIT: [usize; 8] = [7, 21, 34, 36, 47, 53, 57, 58];
+
+/// A text of 64 characters with a backslash, and with bytes that are not shown as they are.
+const ESCAPED: &[u8; 64] =
+    b"A \\ as it is, caf\x82, na\x9Bve, \x00 \x1F \x20 \x7E \x7F \x80 \xFF and \"\\x41\\\\\", at last.\x0D";
 
 /// Word 2: type and version, TP 1, PTY 10, five bits.
 fn second_word(kind: u16, version: u16, five: u16) -> u16 {
@@ -68,16 +75,21 @@ fn bytes(mut bits: Vec<bool>) -> Vec<u8> {
     bytes_of_bits(&bits)
 }
 
-/// All that the record holds, group by group, with nothing bad.
-fn clean() -> Vec<u8> {
-    let groups = [
+/// All that the record holds, group by group.
+fn clean_groups() -> Vec<[u16; 4]> {
+    [
         name_0a(b"RADIO-UM", [0xE50A, 0x0B0C, 0x0DCC, 0x01CD]),
         text_2a(b"What the marker passes goes on the campus transmitter.\x0D ", 0),
         vec![clock_4a(45_218, 23, 59, true, 10), clock_4a(60_000, 12, 5, false, 24)],
         name_0b(b"RADIO-UM"),
         vec![[PI, second_word(15, 1, 7), PI, 0x1234], [PI, second_word(4, 1, 0), PI, 0x0000]],
-    ];
-    bytes(bits(&groups.concat()))
+    ]
+    .concat()
+}
+
+/// A recording of groups, with nothing bad.
+fn clean(groups: &[[u16; 4]]) -> Vec<u8> {
+    bytes(bits(groups))
 }
 
 /// Another station, characters that are not shown as they are, another flag, and clocks at the edges.
@@ -118,6 +130,27 @@ fn roof() -> Vec<u8> {
     bytes(all)
 }
 
+/// The AF list that holds the most, 25 of 25, then a code that is held and one too many.
+fn full_af() -> Vec<[u16; 4]> {
+    let listed = (0..25).map(|place| 204 - 8 * place).collect();
+    let codes: Vec<u8> = [vec![249], listed, vec![204, 1], vec![205; 4]].concat();
+    codes.chunks(8).flat_map(|eight| name_0a(b"RADIO-UM", [0, 2, 4, 6].map(|at| pair(eight, at)))).collect()
+}
+
+/// Three stretches of groups with bits 0, which never lock, between. The second begins at an odd bit, and byte 65,536
+/// comes in the midst of its AF list, of a group and of a block; the third lies behind and has group 256.
+fn long() -> Vec<u8> {
+    let across = bits(&[full_af(), text_2a(ESCAPED, 1)].concat());
+    let last = [name_0b(b"caf\x82 \\\x00\xFF"), text_2b(b"over 64 KiB ", 1), vec![clock_4a(61_360, 7, 8, true, 3)]];
+    let behind = bits(&last.concat());
+    let mut all = bits(&clean_groups().repeat(7));
+    all.resize(8 * 65_536 - 601, false);
+    all.extend(across);
+    all.resize(8 * 70_000 - 3 - behind.len(), false);
+    all.extend(behind);
+    bytes(all)
+}
+
 /// Groups of any words, with noise, slips and bad blocks between.
 fn drawn(seed: u64) -> Vec<u8> {
     let mut noise = Noise { state: seed };
@@ -144,24 +177,34 @@ fn drawn(seed: u64) -> Vec<u8> {
     bytes(all)
 }
 
-fn store(crates: &Path, name: &str, recording: &[u8], short: bool) {
-    let folder = crates.join(name);
-    let text = second::listen::text(recording, short);
-    std::fs::write(folder.join("stdin"), recording).expect("stdin");
-    std::fs::write(folder.join("stdout"), &text).expect("stdout");
-    println!("{name}: {} bytes, {} lines", recording.len(), text.lines().count());
+/// A run with some arguments: a first `-s` asks for the summary alone, and any other names the file of the recording.
+fn run(name: &'static str, arguments: &[&'static str], recording: Vec<u8>) -> Stored {
+    let short = arguments.first() == Some(&"-s");
+    let named = arguments.get(usize::from(short));
+    let output = second::listen::text(&recording, short);
+    println!("{name}: {} bytes, {} lines", recording.len(), output.lines().count());
+    let (input, files) = match named {
+        Some(file) => (None, vec![(*file, recording)]),
+        None => (Some(recording), Vec::new()),
+    };
+    Stored { name, arguments: arguments.to_vec(), input, files, output: output.into_bytes() }
+}
+
+fn runs() -> Vec<Stored> {
+    vec![
+        run("listen", &[], clean(&clean_groups())),
+        run("listen_roof", &[], roof()),
+        run("listen_empty", &[], Vec::new()),
+        run("listen_summary", &["-s"], roof()),
+        run("listen_long", &[], long()),
+        run("listen_x", &["-x"], clean(&clean_groups()[..10])),
+    ]
 }
 
 fn main() {
     let arguments: Vec<String> = std::env::args().skip(1).collect();
     match &arguments[..] {
-        [crates] => {
-            let crates = Path::new(crates);
-            store(crates, "listen", &clean(), false);
-            store(crates, "listen_roof", &roof(), false);
-            store(crates, "listen_empty", &[], false);
-            store(crates, "listen_summary", &roof(), true);
-        }
+        [crates] => runs().iter().for_each(|run| run.write(Path::new(crates)).expect("run")),
         [file, seed] => std::fs::write(file, drawn(seed.parse().expect("a number"))).expect("file"),
         _ => panic!("usage: recordings CRATESFOLDER, or recordings FILE SEED"),
     }

@@ -41,9 +41,24 @@ pub fn text_key() -> Key {
 
 const TEXT: [u8; 64] = *b"A text of sixty-four characters, sent by fours in any order once";
 
+/// Keys that differ by PI and name.
+pub fn keys(count: usize) -> Vec<Key> {
+    let key = |number: usize| {
+        let mut key = plain_key();
+        key.pi += number as u16;
+        key.name[7] = 255 - number as u8 % 200;
+        key
+    };
+    (0..count).map(key).collect()
+}
+
 /// The sheet of some keys, good or not.
 pub fn sheet(keys: &[&Key]) -> Vec<u8> {
     keys.iter().flat_map(|key| record(key)).collect()
+}
+
+pub fn sheet_of(keys: &[Key]) -> Vec<u8> {
+    sheet(&keys.iter().collect::<Vec<_>>())
 }
 
 pub fn record(key: &Key) -> Vec<u8> {
@@ -105,6 +120,11 @@ pub fn without(groups: &[[u16; 4]], place: usize) -> Vec<[u16; 4]> {
 
 pub fn bytes(groups: &[[u16; 4]]) -> Vec<u8> {
     groups.iter().flat_map(|&words| write_bytes(words)).collect()
+}
+
+/// A passing submission repeated and cut to a length.
+pub fn cut(key: &Key, length: usize) -> Vec<u8> {
+    bytes(&passing(key)).into_iter().cycle().take(length).collect()
 }
 
 /// A submission with a pattern of 26 bits turned in one of its blocks.

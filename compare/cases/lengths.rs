@@ -1,12 +1,6 @@
 //! Lengths of submissions and of sheets, and exercise numbers.
 
 use super::build::*;
-use crate::second::keys::Key;
-
-/// A passing submission repeated and cut to a length.
-fn cut(key: &Key, length: usize) -> Vec<u8> {
-    bytes(&passing(key)).into_iter().cycle().take(length).collect()
-}
 
 pub fn small_submissions() -> Vec<Case> {
     let plain = plain_key();
@@ -22,21 +16,6 @@ pub fn small_submissions() -> Vec<Case> {
         cases.push(case(meant, &text, cut(&text, length)));
     }
     cases
-}
-
-/// Keys that differ by PI and name.
-fn keys(count: usize) -> Vec<Key> {
-    let key = |number: usize| {
-        let mut key = plain_key();
-        key.pi += number as u16;
-        key.name[7] = 255 - number as u8 % 200;
-        key
-    };
-    (0..count).map(key).collect()
-}
-
-fn sheet_of(keys: &[Key]) -> Vec<u8> {
-    sheet(&keys.iter().collect::<Vec<_>>())
 }
 
 pub fn small_sheets() -> Vec<Case> {

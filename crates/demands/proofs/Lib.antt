@@ -11,4 +11,5 @@ pub mod PassingSays
 pub mod PassingRecord
 pub mod PassingDamage
 pub mod Passing
+pub mod Printed
 pub mod OneAnswer

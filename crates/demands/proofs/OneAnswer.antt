@@ -8,11 +8,11 @@ use native.Mathlib.Omega.{arith}
 use lib.Dec.{eqb}
 use lib.Pow.{mod-pow-add}
 use borrow.Author.Tests.{eqb-true, eqb-false}
-use Rattle.telling.proofs.Exactly.{one-answer}
+use Rattle.letters.proofs.Exactly.{one-answer, one-within, one-put, one-wrote}
 use Rattle.marker.specs.Steps.{has}
 use Rattle.demands.specs.OneAnswer.{Blocks, Groups, Fields, Bytes, Frequencies, Clock, Receiver, Saving}
-use Rattle.demands.specs.OneAnswer.{Station, Held, Keys, Encoder, Marker, OneMask, Telling}
-use Rattle.demands.specs.OneAnswer.{NoSecondAnswer}
+use Rattle.demands.specs.OneAnswer.{Station, Held, Keys, Encoder, Marker, OneMask, Letters, Telling, Recording}
+use Rattle.demands.specs.OneAnswer.{Asking, Answers, NoSecondAnswer}
 
 -- two things that are equal to a third
 pub equation-settles : {A : Type 0} {x y z : A} → x ≡ z → y ≡ z → x ≡ y
@@ -154,16 +154,66 @@ marker =
     }
 
 -- what is told is settled by the text and the buffer
+letters : Letters
+letters =
+    record {
+      tell = λ κs a. (tt, λ r r′ e e′ p q. one-answer p q);
+      written = λ κs a. (tt, λ r r′ e e′ p q. equation-settles p q);
+      put = λ κs a. (tt, λ r r′ e e′ p q. one-put p q);
+      put-byte = λ κs a. (tt, λ r r′ e e′ p q. one-put p q);
+      put-number = λ κs a. (tt, λ r r′ e e′ p q. one-put p q);
+      put-word = λ κs a. (tt, λ r r′ e e′ p q. one-put p q);
+      put-hex = λ κs a. (tt, λ r r′ e e′ p q. one-put p q);
+      put-last-two = λ κs a. (tt, λ r r′ e e′ p q. one-put p q);
+      put-character = λ κs a. (tt, λ r r′ e e′ p q. one-put p q);
+    }
+
 telling : Telling
 telling =
     record {
-      lock = λ κs a. (tt, λ r r′ e e′ p q. one-answer p q);
-      lost = λ κs a. (tt, λ r r′ e e′ p q. one-answer p q);
-      group = λ κs a. (tt, λ r r′ e e′ p q. one-answer p q);
-      record-lines = λ κs a. (tt, λ r r′ e e′ p q. one-answer p q);
-      count-lines = λ κs a. (tt, λ r r′ e e′ p q. one-answer p q);
+      lock = λ κs a. (tt, λ r r′ e e′ p q. one-within p q);
+      lost = λ κs a. (tt, λ r r′ e e′ p q. one-within p q);
+      group = λ κs a. (tt, λ r r′ e e′ p q. one-within p q);
+      record-lines = λ κs a. (tt, λ r r′ e e′ p q. one-within p q);
+      count-lines = λ κs a. (tt, λ r r′ e e′ p q. one-within p q);
       none = λ κs a. (tt, λ r r′ e e′ p q. equation-settles p q);
       counted = λ κs a. (tt, λ r r′ e e′ p q. equation-settles p q);
+    }
+
+recording : Recording
+recording =
+    record {
+      fresh = λ κs a. (tt, λ r r′ e e′ p q. equation-settles p q);
+      heard = λ κs a. (tt, λ r r′ e e′ p q. equation-settles p q);
+      bits-after = λ κs a. (tt, λ r r′ e e′ p q. equation-settles p q);
+      group-line = λ κs a. (tt, λ r r′ e e′ p q. one-wrote (p .0) (q .0));
+      lock-line = λ κs a. (tt, λ r r′ e e′ p q. one-wrote (p .0) (q .0));
+      record-lines = λ κs a. (tt, λ r r′ e e′ p q. one-wrote (p .0) (q .0));
+      count-lines = λ κs a. (tt, λ r r′ e e′ p q. one-wrote (p .0) (q .0));
+    }
+
+asking : Asking
+asking =
+    record {
+      named = λ κs a. (tt, λ r r′ e e′ p q. equation-settles p q);
+      is-standard = λ κs a. (tt, λ r r′ e e′ p q. equation-settles p q);
+      is-summary = λ κs a. (tt, λ r r′ e e′ p q. equation-settles p q);
+      listen-asked = λ κs a. (tt, λ r r′ e e′ p q. equation-settles p q);
+      after-read = λ κs a. (tt, λ r r′ e e′ p q. equation-settles p q);
+    }
+
+answers : Answers
+answers =
+    record {
+      sheet-buffer = λ κs a. (tt, λ r r′ e e′ p q. equation-settles p q);
+      input-buffer = λ κs a. (tt, λ r r′ e e′ p q. equation-settles p q);
+      marked = λ κs a. (tt, λ r r′ e e′ p q. equation-settles p q);
+      mark-line = λ κs a. (tt, λ r r′ e e′ p q. one-within p q);
+      encode-output = λ κs a. (tt, λ r r′ e e′ p q. one-within p q);
+      encode-error = λ κs a. (tt, λ r r′ e e′ p q. one-within p q);
+      whole-line = λ κs a. (tt, λ r r′ e e′ p q. one-wrote (p .0) (q .0));
+      whole-output = λ κs a. (tt, λ r r′ e e′ p q. one-wrote (p .0) (q .0));
+      whole-error = λ κs a. (tt, λ r r′ e e′ p q. one-wrote (p .0) (q .0));
     }
 
 -- ---- masks
@@ -214,5 +264,9 @@ no-second-answer =
       encoder = encoder;
       marker = marker;
       seen-after = one-mask;
+      letters = letters;
       telling = telling;
+      recording = recording;
+      asking = asking;
+      answers = answers;
     }

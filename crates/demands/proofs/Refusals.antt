@@ -17,6 +17,7 @@ use Rattle.receiver.specs.declared.Receiver.{Receiver}
 use Rattle.receiver.specs.declared.Step.{Step}
 use Rattle.receiver.proofs.Refusal.{refused-9, only-refused-9, refused-same}
 use Rattle.receiver.proofs.Feeds.{advance-number}
+use Rattle.letters.proofs.Exactly.{told-tells, eight-if, eight-only, eight-same}
 use Rattle.saving.specs.Saving.{stateLength, saveOf, savedNumber, bufferOf}
 use Rattle.station.specs.Record.{heldClockOf}
 use Rattle.keys.specs.Sheet.{HasExercise, keyAt}
@@ -144,6 +145,8 @@ row-eight =
       put-at-same = λ words out at e. sym (put-short words out at (put-8 out at .0 e) .2);
       save = save-8;
       save-same = λ r out e. save-same out r (save-8 out .0 e);
+      tell = λ text out. (eight-only (told-tells text out), eight-if (told-tells text out));
+      tell-same = λ text out e. eight-same (told-tells text out) e;
     }
 
 -- ---- 9

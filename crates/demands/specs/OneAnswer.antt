@@ -22,11 +22,16 @@ use Rattle.saving.proofs as saving
 use Rattle.station.proofs as station
 use Rattle.station.proofs.read as held
 use Rattle.counts.proofs as counts
+use Rattle.letters.proofs as letters
 use Rattle.telling.proofs as telling
+use Rattle.recording.proofs as recording
+use Rattle.asking.proofs as asking
+use Rattle.asking.proofs.exercise as exercise
 use Rattle.keys.proofs as keys
 use Rattle.encoder.proofs as encoder
 use Rattle.marker.specs.Steps.{maskBits, has}
 use Rattle.marker.proofs as marker
+use Rattle.answers.proofs as answers
 
 -- ---- what is claimed of a function
 
@@ -206,7 +211,25 @@ OneMask =
     (mask mask′ : ℕ) → mask < 2 ^ maskBits → mask′ < 2 ^ maskBits
     → ((a : ℕ) → a < maskBits → has mask a ≡ has mask′ a) → mask ≡ mask′
 
--- telling: what `listen` writes, into a buffer that is lent, and the counts
+-- letters: texts, numbers and characters, into a buffer that is lent
+pub record Letters : Type 0 where
+  pub tell : OneExit letters.tell.ended (λ κs e. now (e .1 .0)) letters.tell.Reads.Asked letters.tell.Reads.Learnt
+  pub written : OneAnswer letters.written.ended letters.written.Reads.Asked letters.written.Reads.Learnt
+  pub put : OneExit letters.put.ended (λ κs e. now (e .1 .0)) letters.put.Reads.Asked letters.put.Reads.Learnt
+  pub put-byte : OneExit letters.«put_byte».ended (λ κs e. now (e .1 .0)) letters.«put_byte».Reads.Asked
+      letters.«put_byte».Reads.Learnt
+  pub put-number : OneExit letters.«put_number».ended (λ κs e. now (e .1 .0)) letters.«put_number».Reads.Asked
+      letters.«put_number».Reads.Learnt
+  pub put-word : OneExit letters.«put_word».ended (λ κs e. now (e .1 .0)) letters.«put_word».Reads.Asked
+      letters.«put_word».Reads.Learnt
+  pub put-hex : OneExit letters.«put_hex».ended (λ κs e. now (e .1 .0)) letters.«put_hex».Reads.Asked
+      letters.«put_hex».Reads.Learnt
+  pub put-last-two : OneExit letters.«put_last_two».ended (λ κs e. now (e .1 .0)) letters.«put_last_two».Reads.Asked
+      letters.«put_last_two».Reads.Learnt
+  pub put-character : OneExit letters.«put_character».ended (λ κs e. now (e .1 .0)) letters.«put_character».Reads.Asked
+      letters.«put_character».Reads.Learnt
+
+-- telling: the lines of a recording, likewise, and the counts
 pub record Telling : Type 0 where
   pub lock : OneExit telling.lock.ended (λ κs e. now (e .1 .0)) telling.lock.Reads.Asked telling.lock.Reads.Learnt
   pub lost : OneExit telling.lost.ended (λ κs e. now (e .1 .0)) telling.lost.Reads.Asked telling.lost.Reads.Learnt
@@ -218,6 +241,53 @@ pub record Telling : Type 0 where
       telling.«count_lines».Reads.Learnt
   pub none : OneAnswer counts.none.ended counts.none.Reads.Asked counts.none.Reads.Learnt
   pub counted : OneAnswer counts.counted.ended counts.counted.Reads.Asked counts.counted.Reads.Learnt
+
+-- recording: what is heard, and its lines, into buffers that always have room
+pub record Recording : Type 0 where
+  pub fresh : OneAnswer recording.fresh.ended recording.fresh.Reads.Asked recording.fresh.Reads.Learnt
+  pub heard : OneAnswer recording.heard.ended recording.heard.Reads.Asked recording.heard.Reads.Learnt
+  pub bits-after : OneAnswer recording.«bits_after».ended recording.«bits_after».Reads.Asked
+      recording.«bits_after».Reads.Learnt
+  pub group-line : OneExit recording.«group_line».ended (λ κs e. now (e .1 .1 .1 .0)) recording.«group_line».Reads.Asked
+      recording.«group_line».Reads.Learnt
+  pub lock-line : OneExit recording.«lock_line».ended (λ κs e. now (e .1 .1 .1 .0)) recording.«lock_line».Reads.Asked
+      recording.«lock_line».Reads.Learnt
+  pub record-lines : OneExit recording.«record_lines».ended (λ κs e. now (e .1 .0)) recording.«record_lines».Reads.Asked
+      recording.«record_lines».Reads.Learnt
+  pub count-lines : OneExit recording.«count_lines».ended (λ κs e. now (e .1 .0)) recording.«count_lines».Reads.Asked
+      recording.«count_lines».Reads.Learnt
+
+-- asking: the arguments of a program, and a call that reads
+pub record Asking : Type 0 where
+  pub named : OneAnswer exercise.named.ended exercise.named.Reads.Asked exercise.named.Reads.Learnt
+  pub is-standard : OneAnswer asking.«is_standard».ended asking.«is_standard».Reads.Asked
+      asking.«is_standard».Reads.Learnt
+  pub is-summary : OneAnswer asking.«is_summary».ended asking.«is_summary».Reads.Asked
+      asking.«is_summary».Reads.Learnt
+  pub listen-asked : OneAnswer asking.«listen_asked».ended asking.«listen_asked».Reads.Asked
+      asking.«listen_asked».Reads.Learnt
+  pub after-read : OneAnswer asking.«after_read».ended asking.«after_read».Reads.Asked
+      asking.«after_read».Reads.Learnt
+
+-- answers: what `mark` and `encode` write, and the buffers for what they read
+pub record Answers : Type 0 where
+  pub sheet-buffer : OneAnswer answers.«sheet_buffer».ended answers.«sheet_buffer».Reads.Asked
+      answers.«sheet_buffer».Reads.Learnt
+  pub input-buffer : OneAnswer answers.«input_buffer».ended answers.«input_buffer».Reads.Asked
+      answers.«input_buffer».Reads.Learnt
+  pub marked : OneAnswer answers.marked.ended answers.marked.Reads.Asked answers.marked.Reads.Learnt
+  pub mark-line : OneExit answers.«mark_line».ended (λ κs e. now (e .1 .1 .0)) answers.«mark_line».Reads.Asked
+      answers.«mark_line».Reads.Learnt
+  pub encode-output : OneExit answers.«encode_output».ended (λ κs e. now (e .1 .1 .0)) answers.«encode_output».Reads.Asked
+      answers.«encode_output».Reads.Learnt
+  pub encode-error : OneExit answers.«encode_error».ended (λ κs e. now (e .1 .1 .0)) answers.«encode_error».Reads.Asked
+      answers.«encode_error».Reads.Learnt
+  pub whole-line : OneExit answers.«whole_line».ended (λ κs e. now (e .1 .1 .0)) answers.«whole_line».Reads.Asked
+      answers.«whole_line».Reads.Learnt
+  pub whole-output : OneExit answers.«whole_output».ended (λ κs e. now (e .1 .1 .0)) answers.«whole_output».Reads.Asked
+      answers.«whole_output».Reads.Learnt
+  pub whole-error : OneExit answers.«whole_error».ended (λ κs e. now (e .1 .1 .0)) answers.«whole_error».Reads.Asked
+      answers.«whole_error».Reads.Learnt
 
 -- all of them
 pub record NoSecondAnswer : Type 0 where
@@ -235,4 +305,8 @@ pub record NoSecondAnswer : Type 0 where
   pub encoder : Encoder
   pub marker : Marker
   pub seen-after : OneMask
+  pub letters : Letters
   pub telling : Telling
+  pub recording : Recording
+  pub asking : Asking
+  pub answers : Answers

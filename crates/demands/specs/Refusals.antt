@@ -20,6 +20,8 @@ use Rattle.receiver.specs.Machine.{stepOf}
 use Rattle.receiver.specs.Feeding.{advanceOf}
 use Rattle.receiver.specs.Answers.{answerNumber}
 use Rattle.receiver.specs.declared.Receiver.{Receiver}
+use Rattle.letters.specs.Told as told
+use Rattle.letters.specs.Told.{toldOf, toldNumber}
 use Rattle.saving.specs.Saving as saving
 use Rattle.saving.specs.Saving.{stateLength, saveOf, savedNumber}
 use Rattle.station.specs.Record.{heldClockOf}
@@ -101,7 +103,8 @@ pub record RowSeven : Type 0 where
       ↔ (Opened sheet n s × BlocksRight s × NoneBefore (keyAt sheet n) s (groupsIn s)
       × LowestMissing (keyAt sheet n) s a)
 
--- 8: encoder: buffer too short; also a buffer for a group, from byte `at` on, and one for a receiver's state
+-- 8: encoder: buffer too short; also a buffer for a group, from byte `at` on, one for a receiver's state, and one for a text
+-- (a line of `mark` or `listen`, what `encode` writes)
 pub record RowEight : Type 0 where
   pub encode : (sheet : List ℕ) (n room : ℕ)
       → (encoded sheet n room ≡ 8)
@@ -111,6 +114,8 @@ pub record RowEight : Type 0 where
   pub put-at-same : (words out : List ℕ) (at : ℕ) → putNumber (putAtOf out at) ≡ 8 → bufferOf words out at ≡ out
   pub save : (out : List ℕ) → (savedNumber (saveOf out) ≡ 8) ↔ (length out < stateLength)
   pub save-same : (r : Receiver) (out : List ℕ) → savedNumber (saveOf out) ≡ 8 → saving.bufferOf r out ≡ out
+  pub tell : (text out : List ℕ) → (toldNumber (toldOf text out) ≡ 8) ↔ (length out < length text)
+  pub tell-same : (text out : List ℕ) → toldNumber (toldOf text out) ≡ 8 → told.bufferOf text out ≡ out
 
 -- 9: receiver: bit neither 0 nor 1. The bits of bytes are never refused
 pub record RowNine : Type 0 where

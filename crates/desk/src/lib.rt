@@ -1,148 +1,140 @@
-// The desk of the programs `mark` and `encode`: reads the key sheet and what is handed in, asks the proved libraries, and writes
-// their answer. It reads one byte past each limit, so that what is too long is answered as the rules have it.
+// The desk of the programs `mark` and `encode`: reads the key sheet and what is handed in, and writes what `answers` makes
+// of them. It only moves bytes.
 ghost use Rattle.io.specs.Counts.{Counts};
-ghost use Rattle.desk.specs.Filled.{FilledWithin};
-use encoder::Encoded;
+use answers::ERROR_ROOM;
+use answers::LINE_ROOM;
+use answers::OUTPUT_ROOM;
+use asking::exercise::ExerciseNamed;
 use libc::STDERR_FILENO;
-use libc::STDIN_FILENO;
 use libc::STDOUT_FILENO;
-use marker::Verdict;
 
-// Whether an input was read: so many bytes of it, up to its end or the buffer's, or a read failed.
-pub enum Filled {
-    Bytes(usize),
-    Failed,
-}
-
-// Reads until the buffer is full, the input ends or a read fails; a failed read is not taken for the end.
-pub fn fill(input: i32, buffer: &mut [u8]) -> Filled
-    ensures { λ r. ⌜ FilledWithin r (now (buffer .exit)) ⌝ }
-{
-    let mut done: usize = 0;
-    while done < buffer.len() {
-        let got = libc::read(input, &mut buffer[done..]);
-        if got < 0 {
-            return Filled::Failed;
-        }
-        let more = io::count(got, &buffer[done..]);
-        if more == 0 {
-            return Filled::Bytes(done);
-        }
-        done += more;
+// The program `mark`: one line, `exercise N answer A place P`. Without arguments the sheet is the file `key`, and the
+// exercise and the submission come from standard input; else they are named, KEYFILE EXERCISE SUBMISSION.
+pub fn mark() {
+    let count = os::arg_count();
+    if count <= 1 {
+        mark_unnamed();
+    } else if count == 4 {
+        mark_named();
+    } else {
+        say(b"mark takes no arguments, or KEYFILE EXERCISE SUBMISSION\n");
     }
-    Filled::Bytes(done)
 }
 
-// Reads the key sheet from the file `key`; a file that is absent or cannot be read, also midway, has length 0.
-fn read_sheet(sheet: &mut [u8]) -> usize
-    ensures { λ r. ⌜ Counts r (now (sheet .exit)) ⌝ }
+// The program `encode`: the encoding to standard output, or the number of its refusal to standard error. Without arguments
+// the sheet is the file `key`, and the exercise comes from standard input; else they are named, KEYFILE EXERCISE.
+pub fn encode() {
+    let count = os::arg_count();
+    if count <= 1 {
+        encode_unnamed();
+    } else if count == 3 {
+        encode_named();
+    } else {
+        say(b"encode takes no arguments, or KEYFILE EXERCISE\n");
+    }
+}
+
+fn mark_unnamed() {
+    let mut sheet = answers::sheet_buffer();
+    let sheet_length = files::read_file(b"key", true, &mut sheet);
+    let mut input = answers::input_buffer(0);
+    let input_length = files::read_file(b"-", false, &mut input);
+    write_line(&sheet[..sheet_length], &input[..input_length]);
+}
+
+// An exercise that is none is said, and nothing is marked.
+fn mark_named() {
+    match named_exercise() {
+        ExerciseNamed::Exercise(exercise) => mark_exercise(exercise),
+        ExerciseNamed::NoExercise => say_no_exercise(),
+    }
+}
+
+fn mark_exercise(exercise: u8) {
+    let mut sheet = answers::sheet_buffer();
+    let sheet_length = read_argument(1, &mut sheet);
+    let mut input = answers::input_buffer(exercise);
+    let input_length = read_behind(3, &mut input);
+    write_line(&sheet[..sheet_length], &input[..input_length]);
+}
+
+fn encode_unnamed() {
+    let mut sheet = answers::sheet_buffer();
+    let sheet_length = files::read_file(b"key", true, &mut sheet);
+    let mut input = [0u8; 1];
+    let input_length = files::read_file(b"-", false, &mut input);
+    write_encoding(&sheet[..sheet_length], &input[..input_length]);
+}
+
+fn encode_named() {
+    match named_exercise() {
+        ExerciseNamed::Exercise(exercise) => encode_exercise(exercise),
+        ExerciseNamed::NoExercise => say_no_exercise(),
+    }
+}
+
+fn encode_exercise(exercise: u8) {
+    let mut sheet = answers::sheet_buffer();
+    let sheet_length = read_argument(1, &mut sheet);
+    let input = [exercise; 1];
+    write_encoding(&sheet[..sheet_length], &input);
+}
+
+// The exercise that the second argument names.
+fn named_exercise() -> ExerciseNamed {
+    let mut text = io::buffer();
+    let length = os::arg(2, &mut text);
+    asking::exercise::named(&text[..length])
+}
+
+// Reads the file that an argument names.
+fn read_argument(number: usize, buffer: &mut [u8]) -> usize
+    ensures { λ r. ⌜ Counts r (now (buffer .exit)) ⌝ }
 {
-    let file = os::open_read(b"key");
-    if file < 0 {
+    let mut name = io::buffer();
+    let length = os::arg(number, &mut name);
+    files::read_file(&name[..length], false, buffer)
+}
+
+// The same behind the first byte of a buffer, which counts too.
+fn read_behind(number: usize, buffer: &mut [u8]) -> usize
+    ensures { λ r. ⌜ Counts r (now (buffer .exit)) ⌝ }
+{
+    if buffer.len() == 0 {
         return 0;
     }
-    let filled = fill(file, sheet);
-    libc::close(file);
-    match filled {
-        Filled::Bytes(length) => length,
-        Filled::Failed => 0,
+    1 + read_argument(number, &mut buffer[1..])
+}
+
+// The line of `mark`, whole and by one call.
+fn write_line(sheet: &[u8], input: &[u8]) {
+    let mut line = [0u8; LINE_ROOM];
+    let length = answers::whole_line(sheet, input, &mut line);
+    write(&line[..length]);
+}
+
+// What `encode` writes.
+fn write_encoding(sheet: &[u8], input: &[u8]) {
+    let mut output = [0u8; OUTPUT_ROOM];
+    let length = answers::whole_output(sheet, input, &mut output);
+    write(&output[..length]);
+    let mut error = [0u8; ERROR_ROOM];
+    let said = answers::whole_error(sheet, input, &mut error);
+    io::write_all(STDERR_FILENO, &error[..said]);
+}
+
+// Writes a text to standard output, by one call where that takes it whole.
+fn write(text: &[u8]) {
+    if !io::write_all(STDOUT_FILENO, text) {
+        files::say_lost();
     }
 }
 
-// Reads standard input; a read that fails counts as nothing at all.
-fn read_input(input: &mut [u8]) -> usize
-    ensures { λ r. ⌜ Counts r (now (input .exit)) ⌝ }
-{
-    match fill(STDIN_FILENO, input) {
-        Filled::Bytes(length) => length,
-        Filled::Failed => 0,
-    }
+fn say_no_exercise() {
+    say(b"an exercise is a decimal number from 0 to 255\n");
 }
 
-// Writes a word and a number.
-fn write_number(word: &[u8], number: usize) {
-    io::write_all(STDOUT_FILENO, word);
-    io::print_decimal(STDOUT_FILENO, number as u64);
-}
-
-// A byte as a number of its own.
-fn wide(byte: u8) -> usize {
-    byte as usize
-}
-
-// Marks a submission, and writes the line of its answer.
-fn mark_input(sheet: &[u8], input: &[u8]) {
-    if input.len() == 0 {
-        write_mark(0, marker::mark(sheet, 0, input));
-        return;
-    }
-    let exercise = wide(input[0]);
-    write_mark(exercise, marker::mark(sheet, exercise, &input[1..]));
-}
-
-fn write_mark(exercise: usize, verdict: Verdict) {
-    write_number(b"exercise ", exercise);
-    write_number(b" answer ", marker::number(verdict) as usize);
-    write_number(b" place ", marker::place(verdict));
-    io::write_all(STDOUT_FILENO, b"\n");
-}
-
-// The program `mark`: one line, `exercise N answer A place P`.
-pub fn mark() {
-    let mut sheet = [0u8; 20481];
-    let sheet_length = read_sheet(&mut sheet);
-    let mut input = [0u8; 13314];
-    let input_length = read_input(&mut input);
-    mark_input(&sheet[..sheet_length], &input[..input_length]);
-}
-
-// So many bytes of a buffer, or all of them where it has fewer.
-fn within(length: usize, buffer: &[u8]) -> usize
-    ensures { λ r. ⌜ Counts r (now (buffer .entry)) ⌝ }
-{
-    if length < buffer.len() {
-        return length;
-    }
-    buffer.len()
-}
-
-// Writes the number of a refusal to standard error.
-fn write_refusal(number: u64) {
-    io::write_all(STDERR_FILENO, b"answer ");
-    io::print_decimal(STDERR_FILENO, number);
-    io::write_all(STDERR_FILENO, b"\n");
-}
-
-// Encodes for an exercise, and writes the encoding to standard output; on a refusal nothing, and its number to standard error.
-fn encode_exercise(sheet: &[u8], exercise: usize) {
-    let mut out = [0u8; 260];
-    match encoder::encode(sheet, exercise, &mut out) {
-        Encoded::Written(length) => write_encoding(&out, length),
-        Encoded::NoKey => write_refusal(1),
-        Encoded::BadKey => write_refusal(2),
-        Encoded::TooShort => write_refusal(8),
-    }
-}
-
-fn write_encoding(out: &[u8], length: usize) {
-    let end = within(length, out);
-    io::write_all(STDOUT_FILENO, &out[..end]);
-}
-
-// The program `encode`.
-pub fn encode() {
-    let mut sheet = [0u8; 20481];
-    let sheet_length = read_sheet(&mut sheet);
-    let mut input = [0u8; 1];
-    let input_length = read_input(&mut input);
-    encode_input(&sheet[..sheet_length], &input[..input_length]);
-}
-
-// Nothing at all counts as exercise 0.
-fn encode_input(sheet: &[u8], input: &[u8]) {
-    if input.len() == 0 {
-        encode_exercise(sheet, 0);
-        return;
-    }
-    encode_exercise(sheet, wide(input[0]));
+// Says in words why nothing was done.
+fn say(words: &[u8]) {
+    io::write_all(STDERR_FILENO, words);
 }

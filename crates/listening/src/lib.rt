@@ -1,197 +1,144 @@
-// The program `listen`: reads a recording from standard input, in pieces of at most 64 KiB, feeds it to the receiver,
-// and writes what comes, line by line, and at the end the station record and the counts.
+// The program `listen`: reads a recording in pieces of at most 64 KiB, feeds it to the receiver, and writes the lines that
+// `recording` makes of it. It only moves bytes.
 ghost use mathlib.Core.Path.{_≡_};
-ghost use Prim.Native.Nat.{_+_, _*_, _-_, _%_, _^_};
-ghost use Rattle.io.specs.Counts.{Counts as Counted};
-ghost use Rattle.listening.specs.Ear.{freshEar, heardOf, hearOf};
-use counts::Counts;
-use groups::Group;
+ghost use Rattle.recording.specs.Ear.{hearOf};
+use asking::ListenAsked;
+use asking::Reading;
+use libc::STDERR_FILENO;
 use libc::STDIN_FILENO;
 use libc::STDOUT_FILENO;
 use receiver::Advanced;
-use receiver::Answer;
-use receiver::Receiver;
-use station::Record;
-use telling::Told;
+use recording::Ear;
+use telling::GROUP_ROOM;
+use telling::LINE_ROOM;
+use telling::STATION_ROOM;
 
-// What is kept from bit to bit: the receiver, the station record, and the counts.
-pub struct Ear {
-    pub receiver: Receiver,
-    pub station: Record,
-    pub counts: Counts,
+// Bytes of a piece.
+const PIECE: usize = 65536;
+
+// How far a recording is heard: what was heard, how many bits came, and whether its lines can still be written.
+struct Listened {
+    ear: Ear,
+    bits: u64,
+    open: bool,
 }
 
-// Bytes past which eight times their number would not fit: 2 to the 61.
-const BYTES_LIMIT: u64 = 2_305_843_009_213_693_952;
-
-const BYTE_BITS: u64 = 8;
-
-// Nothing has come.
-fn fresh() -> Ear
-    ensures { λ r. ⌜ r ≡ freshEar ⌝ }
-{
-    Ear {
-        receiver: Receiver::new(),
-        station: station::fresh(),
-        counts: counts::none(),
-    }
-}
-
-// After an answer: the receiver's next state, the record with the group, and the counts with the answer.
-fn heard(ear: Ear, taken: Advanced) -> Ear
-    ensures { λ r. ⌜ r ≡ heardOf ear taken ⌝ }
-{
-    let next = taken.next;
-    let answer = taken.answer;
-    let group = taken.group;
-    let station = ear.station;
-    let counts = ear.counts;
-    Ear {
-        receiver: next,
-        station: station::updated(station, group),
-        counts: counts::counted(counts, answer, group),
-    }
-}
-
-// The number of the bit before a place, where so many bits came before the piece; numbers go round at 2 to the 64.
-fn bit_number(before: u64, byte: usize, bit: u8) -> u64
-    ensures { λ r. ⌜ r ≡ (before + 8 * byte + bit + (2 ^ 64 - 1)) % 2 ^ 64 ⌝ }
-{
-    let whole = (byte as u64) % BYTES_LIMIT * BYTE_BITS;
-    let place = std::num::wrapping_add_u64(std::num::wrapping_add_u64(before, whole), bit as u64);
-    std::num::wrapping_sub_u64(place, 1)
-}
-
-// So many bytes of a buffer, or all of them where it has fewer.
-fn within(length: usize, buffer: &[u8]) -> usize
-    ensures { λ r. ⌜ Counted r (now (buffer .entry)) ⌝ }
-{
-    if length < buffer.len() {
-        return length;
-    }
-    buffer.len()
-}
-
-// Writes a text that was told.
-fn write_told(told: Told, text: &[u8]) {
-    match told {
-        Told::Written(length) => {
-            let end = within(length, text);
-            io::write_all(STDOUT_FILENO, &text[..end]);
+// The program `listen`, with the arguments [-s] [FILE]: the lines of a recording, or with -s the summary alone.
+pub fn listen() {
+    let mut first = [0u8; 3];
+    let length = os::arg(1, &mut first);
+    let summary = asking::is_summary(&first[..length]);
+    match asking::listen_asked(os::arg_count(), summary) {
+        ListenAsked::All(argument) => listen_to(argument, false),
+        ListenAsked::Summary(argument) => listen_to(argument, true),
+        ListenAsked::Unknown => {
+            io::write_all(STDERR_FILENO, b"listen takes [-s] [FILE]\n");
         }
-        Told::TooShort => {}
     }
 }
 
-fn write_lock(bit: u64) {
-    let mut text = [0u8; 64];
-    let told = telling::lock(bit, &mut text);
-    write_told(told, &text);
-}
-
-fn write_lost(bit: u64) {
-    let mut text = [0u8; 64];
-    let told = telling::lost(bit, &mut text);
-    write_told(told, &text);
-}
-
-fn write_group(number: u64, group: Group) {
-    let mut text = [0u8; 1024];
-    let told = telling::group(number, group, &mut text);
-    write_told(told, &text);
-}
-
-// Writes the lines of an answer: its bit, and the number of its group.
-fn write_answer(answer: Answer, group: Group, number: u64, bit: u64) {
-    match answer {
-        Answer::Nothing => {}
-        Answer::Locked => write_lock(bit),
-        Answer::Group => write_group(number, group),
-        Answer::Lost => write_lost(bit),
-        Answer::GroupAndLost => {
-            write_group(number, group);
-            write_lost(bit);
-        }
-        Answer::Refused => {}
-    }
-}
-
-// Writes the station record and the counts.
-fn write_summary(ear: Ear) {
-    let station = ear.station;
-    let mut text = [0u8; 8192];
-    let told = telling::record_lines(station, &mut text);
-    write_told(told, &text);
-    let counts = ear.counts;
-    let mut lines = [0u8; 512];
-    let counted = telling::count_lines(counts, &mut lines);
-    write_told(counted, &lines);
-}
-
-// The lines of what was taken, unless only the summary is asked for.
-fn write_taken(ear: Ear, taken: Advanced, before: u64, short: bool) {
-    if short {
+// Hears the file that an argument names, or standard input.
+fn listen_to(argument: usize, short: bool) {
+    if argument == 0 {
+        hear_file(STDIN_FILENO, b"-", short);
         return;
     }
-    let answer = taken.answer;
-    let group = taken.group;
-    let counts = ear.counts;
-    write_answer(
-        answer,
-        group,
-        counts.groups,
-        bit_number(before, taken.byte, taken.bit),
-    );
+    let mut name = io::buffer();
+    let length = os::arg(argument, &mut name);
+    let file = files::open(&name[..length], false);
+    if file < 0 {
+        return;
+    }
+    hear_file(file, &name[..length], short);
+    files::close(file);
+}
+
+// Hears a file to its end, and writes the summary. A read that fails is said, and is not taken for the end: then no summary
+// is written.
+fn hear_file(file: i32, name: &[u8], short: bool) {
+    let mut now = Listened {
+        ear: recording::fresh(),
+        bits: 0,
+        open: true,
+    };
+    let mut piece = [0u8; PIECE];
+    let mut turns = u64::MAX;
+    while turns > 0 {
+        let got = libc::read(file, &mut piece);
+        match asking::after_read(0, got, PIECE) {
+            Reading::GoOn(length) => {
+                now = hear(now, &piece[..length], short);
+            }
+            Reading::Ended(_) => {
+                write_summary(now);
+                return;
+            }
+            Reading::Failed => {
+                files::say_failed(name);
+                return;
+            }
+        }
+        turns -= 1;
+    }
 }
 
 // Feeds a piece of a recording, from answer to answer, and writes their lines.
-fn hear(ear: Ear, piece: &[u8], before: u64, short: bool) -> Ear
-    ensures { λ r. ⌜ r ≡ hearOf ear (now (piece .entry)) ⌝ }
+fn hear(start: Listened, piece: &[u8], short: bool) -> Listened
+    ensures { λ r. ⌜ r .ear ≡ hearOf (start .ear) (now (piece .entry)) ⌝ }
 {
-    let mut now = ear;
+    let mut ear = start.ear;
+    let mut open = start.open;
     let mut byte: usize = 0;
     let mut bit: u8 = 0;
     while byte < piece.len() {
-        let receiver = now.receiver;
+        let receiver = ear.receiver;
         let taken = receiver.advance(piece, byte, bit);
-        write_taken(now, taken, before, short);
-        now = heard(now, taken);
+        open = open & write_taken(ear, taken, start.bits, short | !open);
+        ear = recording::heard(ear, taken);
         byte = taken.byte;
         bit = taken.bit;
     }
-    now
-}
-
-// Whether the first argument asks for the summary alone.
-fn asks_summary() -> bool {
-    let mut argument = [0u8; 2];
-    let length = os::arg(1, &mut argument);
-    is_summary(&argument[..length])
-}
-
-fn is_summary(argument: &[u8]) -> bool {
-    if argument.len() != 2 {
-        return false;
+    Listened {
+        ear: ear,
+        bits: recording::bits_after(start.bits, piece.len()),
+        open: open,
     }
-    (argument[0] == b'-') & (argument[1] == b's')
 }
 
-// The program `listen`. A read that fails ends the recording.
-pub fn listen() {
-    let short = asks_summary();
-    let mut ear = fresh();
-    let mut before: u64 = 0;
-    let mut piece = [0u8; 65536];
-    let mut turns = u64::MAX;
-    while turns > 0 {
-        let got = libc::read(STDIN_FILENO, &mut piece);
-        let length = io::count(got, &piece);
-        if length == 0 {
-            break;
-        }
-        ear = hear(ear, &piece[..length], before, short);
-        before = bit_number(before, length, 1);
-        turns -= 1;
+// Writes the lines of what was taken, each by one call.
+fn write_taken(ear: Ear, taken: Advanced, before: u64, short: bool) -> bool {
+    let mut group = [0u8; GROUP_ROOM];
+    let length = recording::group_line(ear, taken, short, &mut group);
+    let mut lock = [0u8; LINE_ROOM];
+    let more = recording::lock_line(taken, before, short, &mut lock);
+    write(&group[..length]) & write(&lock[..more])
+}
+
+// Writes the station record and the counts.
+fn write_summary(now: Listened) {
+    let open = now.open;
+    if open {
+        let ear = now.ear;
+        let mut station = [0u8; STATION_ROOM];
+        let length = recording::record_lines(ear, &mut station);
+        let mut counts = [0u8; LINE_ROOM];
+        let more = recording::count_lines(ear, &mut counts);
+        write_both(&station[..length], &counts[..more]);
     }
-    write_summary(ear);
+}
+
+// The second only where the first was written.
+fn write_both(first: &[u8], second: &[u8]) {
+    if write(first) {
+        write(second);
+    }
+}
+
+// Writes a text to standard output, by one call where that takes it whole, and answers whether that went well.
+fn write(text: &[u8]) -> bool {
+    if io::write_all(STDOUT_FILENO, text) {
+        return true;
+    }
+    files::say_lost();
+    false
 }

@@ -14,6 +14,7 @@ use Rattle.keys.specs.Good.{GoodKey, keyGood}
 use Rattle.keys.specs.Wanted.{addressesOf, wantedAddress}
 use Rattle.keys.proofs.SheetLaws.{has-exercise, exercise-has, key-byte}
 use Rattle.keys.proofs.GoodLaws.{good-key, key-good}
+use Rattle.keys.proofs.AnswerLaws.{exercise-dec, good-dec}
 use Rattle.keys.proofs.WantedLaws.{address-wanted, wanted-address}
 use Rattle.marker.specs.declared.checks.Found.{Found}
 use Rattle.marker.specs.declared.checks.Found.the-variants.{At, Nowhere}
@@ -383,3 +384,16 @@ no-submission sheet n e =
 pub damaged : (sheet : List ℕ) (n : ℕ) (s : List ℕ) (j : ℕ) → j < blocksIn s → (BlockRight s j → ⊥)
     → markOf sheet n s ≡ Passed → ⊥
 damaged sheet n s j l f e = f (passed-rules sheet n s e .2 .blocks j l)
+
+-- ---- submissions of a wrong length are answered alike, whatever their bytes are
+
+pub wrong-length : (sheet : List ℕ) (n : ℕ) (s t : List ℕ) → (GoodLength s → ⊥) → (GoodLength t → ⊥)
+    → markOf sheet n s ≡ markOf sheet n t
+unfolding Told
+wrong-length sheet n s t wrong wrong′ = by-exercise (exercise-dec sheet n) (good-dec (keyAt sheet n))
+  where
+    by-exercise : Dec (HasExercise sheet n) → Dec (GoodKey (keyAt sheet n)) → markOf sheet n s ≡ markOf sheet n t
+    by-exercise (no f) good = told-mark sheet n s NoKey f ∙ sym (told-mark sheet n t NoKey f)
+    by-exercise (yes h) (no f) = told-mark sheet n s BadKey (h, f) ∙ sym (told-mark sheet n t BadKey (h, f))
+    by-exercise (yes h) (yes g) =
+        told-mark sheet n s BadLength ((h, g), wrong) ∙ sym (told-mark sheet n t BadLength ((h, g), wrong′))

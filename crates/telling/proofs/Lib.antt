@@ -1,7 +1,1 @@
--- The laws of the floor `telling`.
-pub mod Buffers
-pub mod Digits
-pub mod Sizes
-pub mod Handing
-pub mod Exactly
-pub mod Spelling
+-- The floor `telling` has no laws beside its promises: those of its texts are `letters`'.

@@ -1,7 +1,6 @@
 -- What the floor `telling` means.
-pub mod Letters
 pub mod Pieces
 pub mod Lines
-pub mod Told
+pub mod Rooms
 pub mod Station
 pub mod Totals

@@ -17,7 +17,7 @@ use Rattle.clock.specs.declared.Held.{Held}
 use Rattle.clock.specs.declared.Held.the-variants.{At, Nothing}
 use Rattle.clock.specs.declared.Local.{Local}
 use Rattle.clock.specs.declared.Local.the-variants.{Date, OutOfRange}
-use Rattle.telling.specs.Letters.{word}
+use Rattle.letters.specs.Letters.{word}
 use Rattle.telling.specs.Pieces.{lineText}
 use Rattle.telling.specs.declared.pieces.Piece.{Piece}
 use Rattle.telling.specs.declared.pieces.Piece.the-variants.{Word, Number, Two, Hex, Character, Silent}

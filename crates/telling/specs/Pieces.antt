@@ -1,7 +1,7 @@
 -- Pieces: what a line is made of, each with the characters that it is shown as.
 use Prim.Native.Nat.{ℕ}
 use mathlib.Core.List.{List, []}
-use Rattle.telling.specs.Letters.{hexFour, lastTwo, decimalOf, characterText, lettersOf, joined}
+use Rattle.letters.specs.Letters.{hexFour, lastTwo, decimalOf, characterText, lettersOf, joined}
 use Rattle.telling.specs.declared.pieces.Piece.{Piece}
 use Rattle.telling.specs.declared.pieces.Piece.the-variants.{Word, Number, Two, Hex, Character, Silent}
 

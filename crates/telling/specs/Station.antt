@@ -12,7 +12,7 @@ use Rattle.station.specs.declared.HeldPi.the-variants.{Pi, NoPi}
 use Rattle.station.specs.declared.HeldFlag.{HeldFlag}
 use Rattle.station.specs.declared.HeldFlag.the-variants.{Flag, NoFlag}
 use Rattle.station.specs.declared.Record.{Record}
-use Rattle.telling.specs.Letters.{word, decimalOf, characterText, joined}
+use Rattle.letters.specs.Letters.{word, decimalOf, characterText, joined}
 use Rattle.telling.specs.Pieces.{lineText}
 use Rattle.telling.specs.Lines.{none, bitPiece, clockLine, localLine}
 use Rattle.telling.specs.declared.pieces.Piece.{Piece}

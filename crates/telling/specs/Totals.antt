@@ -1,7 +1,7 @@
 -- The lines of the counts of a recording.
 use mathlib.Core.List.{List, [], _∷_}
 use Rattle.counts.specs.declared.Counts.{Counts}
-use Rattle.telling.specs.Letters.{word}
+use Rattle.letters.specs.Letters.{word}
 use Rattle.telling.specs.Lines.{end}
 use Rattle.telling.specs.declared.pieces.Piece.{Piece}
 use Rattle.telling.specs.declared.pieces.Piece.the-variants.{Word, Number}

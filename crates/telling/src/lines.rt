@@ -4,7 +4,7 @@ ghost use mathlib.Core.List.{[], _∷_, _++_};
 ghost use Prim.Native.Nat.{_≤_};
 ghost use lib.ListN.{length, replicate};
 ghost use Rattle.groups.specs.Content.{firstOf, secondOf};
-ghost use Rattle.telling.specs.Letters.{Wrote, word};
+ghost use Rattle.letters.specs.Letters.{Wrote, word};
 ghost use Rattle.telling.specs.Pieces.{lineText};
 ghost use Rattle.telling.specs.Lines.{bitPiece, wordPiece, typePiece, versionPiece, headLine};
 ghost use Rattle.telling.specs.Lines.{nameLine, afLabel, afPiece, codesLine, partLine, pairLine, quote};

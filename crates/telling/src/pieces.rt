@@ -2,9 +2,8 @@
 ghost use mathlib.Core.Path.{_≡_};
 ghost use Prim.Native.Nat.{_+_, _≤_};
 ghost use lib.ListN.{length};
-ghost use Rattle.telling.specs.Letters.{Wrote};
+ghost use Rattle.letters.specs.Letters.{Wrote};
 ghost use Rattle.telling.specs.Pieces.{pieceText, lineText};
-use crate::letters;
 
 // A piece: a word by the number that its letters spell, a number in decimal, the last two digits of one, a word of a
 // group in hexadecimal, a character, or nothing.

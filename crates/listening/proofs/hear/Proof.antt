@@ -2,23 +2,23 @@
 use Prim.Native.Nat.{_*_, _-_, _<_}
 use mathlib.Core.Path.{_≡_, sym, _∙_}
 use native.Mathlib.Omega.{arith}
+use borrow.Author.Needs.{needs}
 use lib.ListN.{length}
 use Rattle.receiver.specs.Feeding.{byteBits}
-use Rattle.listening.specs.Ear.{hearOf}
-use Rattle.listening.proofs.Advances.{at, rest, hear-first, hear-next, hear-last}
-use borrow.Author.Needs.{needs}
+use Rattle.recording.specs.Ear.{hearOf}
+use Rattle.recording.proofs.Advances.{at, rest, hear-first, hear-next, hear-last}
 use Rattle.listening.proofs.hear.Statement.{statement}
 use Rattle.listening.proofs.hear.Tie as tie
 
 abbrev Inv-loop : tie.InvT-loop
-Inv-loop piece before short now₀ byte₀ bit₀ now byte bit =
-    (bit < byteBits) × (hearOf now₀ piece ≡ rest now piece byte bit)
+Inv-loop start piece short ear₀ open₀ byte₀ bit₀ ear «open» byte bit =
+    (bit < byteBits) × (hearOf ear₀ piece ≡ rest ear piece byte bit)
 
 abbrev μ-loop : tie.MeasureT-loop
-μ-loop piece before short now₀ byte₀ bit₀ now byte bit = byteBits * length piece - at byte bit
+μ-loop start piece short ear₀ open₀ byte₀ bit₀ ear «open» byte bit = byteBits * length piece - at byte bit
 
 loop-holds : tie.Need-loop-holds Inv-loop μ-loop
-loop-holds c = (omega arith, hear-first (c .before .args .ear) (c .before .args .piece .now))
+loop-holds c = (omega arith, hear-first (c .before .before .args .start .ear) (c .before .before .args .piece .now))
 
 advance-requires : tie.Need-advance-requires Inv-loop μ-loop
 advance-requires c κs = search needs
@@ -32,25 +32,28 @@ heard-requires c κs = search needs
 loop-less : tie.Need-loop-less Inv-loop μ-loop
 loop-less c =
     let turn = c .before .before .before .before .before .loop in
-    let piece = c .before .before .before .before .before .before .before .args .piece .now in
+    let piece = c .before .before .before .before .before .before .before .before .args .piece .now in
     let next =
-    hear-next (turn .now) piece (turn .byte) (turn .bit) _ _ (omega arith) (turn .inv .0)
+    hear-next (turn .ear) piece (turn .byte) (turn .bit) _ _ (omega arith) (turn .inv .0)
     (c .before .before .advance .ensures .0) (c .heard .ensures) in
     omega (arith, next .1)
 
 loop-again : tie.Need-loop-again Inv-loop μ-loop
 loop-again c =
     let turn = c .before .before .before .before .before .loop in
-    let piece = c .before .before .before .before .before .before .before .args .piece .now in
+    let piece = c .before .before .before .before .before .before .before .before .args .piece .now in
     let next =
-    hear-next (turn .now) piece (turn .byte) (turn .bit) _ _ (omega arith) (turn .inv .0)
+    hear-next (turn .ear) piece (turn .byte) (turn .bit) _ _ (omega arith) (turn .inv .0)
     (c .before .before .advance .ensures .0) (c .heard .ensures) in
     (next .2, turn .inv .1 ∙ next .0)
 
+bits-after-requires : tie.Need-bits-after-requires Inv-loop μ-loop
+bits-after-requires c κs = search needs
+
 returns : tie.Need-returns Inv-loop μ-loop
 returns c =
-    let turn = c .before .loop in
-    sym (turn .inv .1 ∙ hear-last (turn .now) (c .before .before .before .args .piece .now) (turn .byte) (turn .bit) (omega arith))
+    let turn = c .before .before .loop in
+    sym (turn .inv .1 ∙ hear-last (turn .ear) (c .before .before .before .before .before .args .piece .now) (turn .byte) (turn .bit) (omega arith))
 
 pub hear-spec : {M : Type 1} → statement M
 hear-spec =
@@ -64,4 +67,5 @@ hear-spec =
     heard-requires
     loop-less
     loop-again
+    bits-after-requires
     returns)

@@ -3,9 +3,10 @@ use Prim.Native.Nat.{_+_, _*_, _-_, _≤_}
 use mathlib.Core.Path.{_≡_, refl}
 use native.Mathlib.Omega.{arith}
 use lib.ListN.{length, getD}
-use Rattle.telling.specs.Letters.{characterText}
-use Rattle.telling.proofs.Buffers.{Turn, turn-first, turn-next, turn-last}
-use Rattle.telling.proofs.Sizes.{character-most}
+use Rattle.letters.specs.Letters.{characterText}
+use Rattle.letters.proofs.Buffers.{Turn, turn-first, turn-next, turn-last}
+use Rattle.letters.proofs.Puts.{put-wrote}
+use Rattle.letters.proofs.Sizes.{character-most}
 use borrow.Author.Needs.{needs}
 use Rattle.telling.proofs.held.put_characters.Statement.{statement}
 use Rattle.telling.proofs.held.put_characters.Tie as tie
@@ -43,12 +44,13 @@ loop-again : tie.Need-loop-again Inv-loop μ-loop
 loop-again c =
     let start = c .before .before .before .before .before .before .before .before .before in
     let turn = c .before .before .before .before .before .before .loop in
-    let most = character-most (getD (start .args .characters .now) (turn .i) 0) in (
+    let most = character-most (getD (start .args .characters .now) (turn .i) 0) in
+    let wrote = put-wrote (omega arith) (c .before .before .put-character .ensures) in (
       omega arith,
       omega arith,
       search needs,
       turn-next characterText (start .args .characters .now) (start .args .out .now) (start .args .at) 0 (omega arith)
-          (omega arith) (turn .inv .3) (c .before .before .put-character .ensures),
+          (omega arith) (turn .inv .3) wrote,
     )
 
 same-length : tie.Need-same-length Inv-loop μ-loop

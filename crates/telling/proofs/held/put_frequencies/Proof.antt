@@ -4,9 +4,9 @@ use mathlib.Core.Path.{_≡_, refl}
 use native.Mathlib.Omega.{arith}
 use native.Mathlib.Numerals.{add-one}
 use lib.ListN.{length}
-use Rattle.telling.specs.Letters.{Wrote}
+use Rattle.letters.specs.Letters.{Wrote}
 use Rattle.telling.specs.Station.{frequenciesTo}
-use Rattle.telling.proofs.Buffers.{wrote-none, wrote-two}
+use Rattle.letters.proofs.Buffers.{wrote-none, wrote-two}
 use borrow.Author.Needs.{needs}
 use Rattle.telling.proofs.held.put_frequencies.Statement.{statement}
 use Rattle.telling.proofs.held.put_frequencies.Tie as tie

@@ -5,7 +5,8 @@ use mathlib.Core.Bool.{false}
 use native.Mathlib.Omega.{arith}
 use lib.ListN.{length}
 use Rattle.telling.specs.Station.{markText}
-use Rattle.telling.proofs.Buffers.{Turn, turn-first, turn-next, turn-last}
+use Rattle.letters.proofs.Buffers.{Turn, turn-first, turn-next, turn-last}
+use Rattle.letters.proofs.Puts.{put-wrote}
 use borrow.Author.Needs.{needs}
 use Rattle.telling.proofs.held.put_marks.Statement.{statement}
 use Rattle.telling.proofs.held.put_marks.Tie as tie
@@ -44,13 +45,13 @@ loop-less c = search needs
 loop-again : tie.Need-loop-again Inv-loop μ-loop
 loop-again c =
     let start = c .before .before .before .before .before .before .before .before .before .before in
-    let turn = c .before .before .before .before .before .before .before .loop in (
+    let turn = c .before .before .before .before .before .before .before .loop in
+    let wrote = put-wrote (omega arith) (c .before .before .put-byte .ensures) in (
       omega arith,
       omega arith,
       search needs,
       turn-next markText (start .args .seen .now) (start .args .out .now) (start .args .at) false (omega arith)
-          (omega arith) (turn .inv .3) (rw (c .before .before .before .before .mark .ensures) at
-          (c .before .before .put-byte .ensures)),
+          (omega arith) (turn .inv .3) (rw (c .before .before .before .before .mark .ensures) at wrote),
     )
 
 same-length : tie.Need-same-length Inv-loop μ-loop

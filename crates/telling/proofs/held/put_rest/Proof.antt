@@ -1,7 +1,7 @@
 -- `telling::held::put_rest` meets its promise: four texts, one behind the other.
 use native.Mathlib.Omega.{arith}
 use Rattle.telling.specs.Station.{restText}
-use Rattle.telling.proofs.Buffers.{wrote-two}
+use Rattle.letters.proofs.Buffers.{wrote-two}
 use borrow.Author.Needs.{needs}
 use Rattle.telling.proofs.held.put_rest.Statement.{statement}
 use Rattle.telling.proofs.held.put_rest.Tie as tie

@@ -1,6 +1,6 @@
 -- `telling::held::put_shown` meets its promise: a line, characters, a word and marks, one behind the other.
 use native.Mathlib.Omega.{arith}
-use Rattle.telling.proofs.Buffers.{wrote-two}
+use Rattle.letters.proofs.Buffers.{wrote-two}
 use borrow.Author.Needs.{needs}
 use Rattle.telling.proofs.held.put_shown.Statement.{statement}
 use Rattle.telling.proofs.held.put_shown.Tie as tie

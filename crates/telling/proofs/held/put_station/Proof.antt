@@ -1,7 +1,7 @@
 -- `telling::held::put_station` meets its promise: three texts, one behind the other.
 use native.Mathlib.Omega.{arith}
 use Rattle.telling.specs.Station.{stationText}
-use Rattle.telling.proofs.Buffers.{wrote-two}
+use Rattle.letters.proofs.Buffers.{wrote-two}
 use borrow.Author.Needs.{needs}
 use Rattle.telling.proofs.held.put_station.Statement.{statement}
 use Rattle.telling.proofs.held.put_station.Tie as tie

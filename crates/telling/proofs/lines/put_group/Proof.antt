@@ -1,7 +1,7 @@
 -- `telling::lines::put_group` meets its promise: three lines of pieces, one behind the other.
 use native.Mathlib.Omega.{arith}
 use Rattle.telling.specs.Lines.{groupText}
-use Rattle.telling.proofs.Buffers.{wrote-two}
+use Rattle.letters.proofs.Buffers.{wrote-two}
 use borrow.Author.Needs.{needs}
 use Rattle.telling.proofs.lines.put_group.Statement.{statement}
 use Rattle.telling.proofs.lines.put_group.Tie as tie

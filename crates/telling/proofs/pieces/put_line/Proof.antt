@@ -5,7 +5,7 @@ use native.Mathlib.Omega.{arith}
 use lib.ListN.{length}
 use Rattle.telling.specs.Pieces.{pieceText}
 use Rattle.telling.specs.declared.pieces.Piece.the-variants.{Word}
-use Rattle.telling.proofs.Buffers.{Turn, turn-first, turn-next, turn-last}
+use Rattle.letters.proofs.Buffers.{Turn, turn-first, turn-next, turn-last}
 use borrow.Author.Needs.{needs}
 use Rattle.telling.proofs.pieces.put_line.Statement.{statement}
 use Rattle.telling.proofs.pieces.put_line.Tie as tie

@@ -1,7 +1,8 @@
 -- `telling::pieces::put_piece` meets its promise: by what the piece is.
 use native.Mathlib.Omega.{arith}
-use Rattle.telling.proofs.Buffers.{wrote-none}
-use Rattle.telling.proofs.Sizes.{hex-most, character-most}
+use Rattle.letters.proofs.Buffers.{wrote-none}
+use Rattle.letters.proofs.Puts.{put-wrote}
+use Rattle.letters.proofs.Sizes.{letters-most, decimal-most, hex-most, character-most}
 use borrow.Author.Needs.{needs}
 use Rattle.telling.proofs.pieces.put_piece.Statement.{statement}
 use Rattle.telling.proofs.pieces.put_piece.Tie as tie
@@ -44,47 +45,44 @@ same-length c = search needs
 
 returns : tie.Need-returns
 returns c =
-    rw (c .before .before .before .before .before .piece .given .1)
-    (c .before .before .put-word .ensures .0, omega arith)
+    let most = letters-most (c .before .before .before .before .before .piece .given .0 .0) (omega arith) in
+    let wrote = put-wrote (omega arith) (c .before .before .put-word .ensures) in
+    rw (c .before .before .before .before .before .piece .given .1) (wrote, omega arith)
 
 same-length-2 : tie.Need-same-length-2
 same-length-2 c = search needs
 
 returns-2 : tie.Need-returns-2
-returns-2 c = rw (c .before .before .before .before .before .piece2 .given .1) (c .before .before .put-number .ensures)
+returns-2 c =
+    let most = decimal-most (c .before .before .before .before .before .piece2 .given .0 .0) (omega arith) in
+    let wrote = put-wrote (omega arith) (c .before .before .put-number .ensures) in
+    rw (c .before .before .before .before .before .piece2 .given .1) (wrote, omega arith)
 
 same-length-3 : tie.Need-same-length-3
 same-length-3 c = search needs
 
 returns-3 : tie.Need-returns-3
 returns-3 c =
-    rw (c .before .before .before .before .before .piece3 .given .1)
-    (c .before .before .put-last-two .ensures, omega arith)
+    let wrote = put-wrote (omega arith) (c .before .before .put-last-two .ensures) in
+    rw (c .before .before .before .before .before .piece3 .given .1) (wrote, omega arith)
 
 same-length-4 : tie.Need-same-length-4
 same-length-4 c = search needs
 
 returns-4 : tie.Need-returns-4
 returns-4 c =
-    rw (c .before .before .before .before .before .piece4 .given .1) (
-      c .before .before .put-hex .ensures,
-      omega
-          (arith, hex-most (c .before .before .before .before .before .piece4 .given .0 .0)),
-    )
+    let most = hex-most (c .before .before .before .before .before .piece4 .given .0 .0) in
+    let wrote = put-wrote (omega arith) (c .before .before .put-hex .ensures) in
+    rw (c .before .before .before .before .before .piece4 .given .1) (wrote, omega arith)
 
 same-length-5 : tie.Need-same-length-5
 same-length-5 c = search needs
 
 returns-5 : tie.Need-returns-5
 returns-5 c =
-    rw (c .before .before .before .before .before .piece5 .given .1) (
-      c .before .before .put-character .ensures,
-      omega (
-        arith,
-        character-most
-            (c .before .before .before .before .before .piece5 .given .0 .0),
-      ),
-    )
+    let most = character-most (c .before .before .before .before .before .piece5 .given .0 .0) in
+    let wrote = put-wrote (omega arith) (c .before .before .put-character .ensures) in
+    rw (c .before .before .before .before .before .piece5 .given .1) (wrote, omega arith)
 
 returns-6 : tie.Need-returns-6
 returns-6 c =

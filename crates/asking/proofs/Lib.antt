@@ -1,0 +1,5 @@
+-- The laws of the floor `asking`.
+pub mod Digits
+pub mod Calls
+pub mod Texts
+pub mod Decimals

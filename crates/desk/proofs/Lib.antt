@@ -1,2 +1,0 @@
--- The laws of the desk.
-pub mod Counting

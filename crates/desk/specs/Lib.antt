@@ -1,2 +1,0 @@
--- What the desk promises of the inputs that it reads.
-pub mod Filled

@@ -1,0 +1,2 @@
+-- The laws of the reading of files.
+pub mod Counting

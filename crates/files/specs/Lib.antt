@@ -1,0 +1,2 @@
+-- What the reading of files promises.
+pub mod Filled

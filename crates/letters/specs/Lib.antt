@@ -1,0 +1,3 @@
+-- What the floor `letters` means.
+pub mod Letters
+pub mod Told

@@ -1,2 +1,0 @@
--- What the library of the program `listen` means.
-pub mod Ear
