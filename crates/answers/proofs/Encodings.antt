@@ -38,7 +38,8 @@ module _ (sheet : List ℕ) (n : ℕ) where
           → take count (outOf sheet n out) ≡ encoding (keyAt sheet n) (sentOf (keyAt sheet n))
       front count e whole =
           ap (take count) whole
-          ∙ take-at (encoding (keyAt sheet n) (sentOf (keyAt sheet n))) (drop (sizeOf (keyAt sheet n)) out) count (sym e)
+          ∙ take-at (encoding (keyAt sheet n) (sentOf (keyAt sheet n))) (drop (sizeOf (keyAt sheet n)) out) count
+          (sym e)
 
       by-answer : (r : Encoded) → Says sheet n (length out) r
           → take (writtenOf r) (outOf sheet n out) ≡ outputText r (keyAt sheet n)

@@ -16,7 +16,8 @@ sheetRoom = sheetLimit + 1
 abbrev pub inputRoom : ℕ
 inputRoom = 1 + submissionLimit + 1
 
--- for every sheet and every input, however long: so much of them gives the line of all of them, and the encoder's output
+-- for every sheet and every input, however long: so much of them gives the line of all of them, and what `encode`
+-- writes
 pub record ReadEnough : Type 0 where
   pub line : (sheet input : List ℕ) → markLine (take sheetRoom sheet) (take inputRoom input) ≡ markLine sheet input
   pub output : (sheet : List ℕ) (n : ℕ) → outputOf (take sheetRoom sheet) n ≡ outputOf sheet n

@@ -12,7 +12,6 @@ ghost use Rattle.answers.specs.Line.{withVerdict, markedOf, lineOf, mark
 ghost use Rattle.encoder.specs.Answer.{encodedNumber};
 ghost use Rattle.answers.specs.Encoded.{writtenOf, outputOf, errorText, errorOf, outputRoom, errorRoom};
 ghost use Rattle.answers.specs.Enough.{sheetRoom, inputRoom};
-
 use encoder::Encoded;
 use letters::Told;
 use marker::Verdict;

@@ -22,8 +22,8 @@ isStandard name = same name (codes "-")
 unfoldable pub isSummary : List ℕ → Bool
 isSummary argument = same argument (codes "-s")
 
--- what `listen` is asked with so many arguments, its own name among them, and whether the first behind it is `-s`: all that
--- is in the file that an argument names, 0 for standard input, or the summary alone
+-- what `listen` is asked with so many arguments, its own name among them, and whether the first behind it is `-s`: all
+-- that is in the file that an argument names, 0 for standard input, or the summary alone
 unfoldable pub listenOf : ℕ → Bool → ListenAsked
 listenOf count summary =
     cond (leb count 1) (All 0)

@@ -1,17 +1,10 @@
-// How a program is asked, and how much of an input was read: its arguments by what they say, and the answer of a call that
-// reads by a step. There is no io here.
+// How a program is asked, and how much of an input was read: its arguments by what they say, and the answer of a call
+// that reads by a step. There is no io here.
 ghost use mathlib.Core.Path.{_≡_};
 ghost use Rattle.asking.specs.Words.{isStandard, isSummary, listenOf};
-ghost use Rattle.asking.specs.Reading.{readOf};
 
 pub mod exercise;
-
-// What comes after a call that reads: more, the input's end, or a failure; so many bytes are there.
-pub enum Reading {
-    GoOn(usize),
-    Ended(usize),
-    Failed,
-}
+pub mod reading;
 
 // What `listen` is asked: all that is in the file that an argument names, 0 for standard input, or the summary alone.
 pub enum ListenAsked {
@@ -61,24 +54,4 @@ pub fn listen_asked(count: usize, summary: bool) -> ListenAsked
         return ListenAsked::Summary(2);
     }
     ListenAsked::Unknown
-}
-
-// After a call that read into a buffer behind the bytes that were there.
-pub fn after_read(there: usize, got: isize, room: usize) -> Reading
-    ensures { λ r. ⌜ r ≡ readOf there got room ⌝ }
-{
-    if got < 0 {
-        return Reading::Failed;
-    }
-    let more = got as usize;
-    if more == 0 {
-        return Reading::Ended(there);
-    }
-    if room < there {
-        return Reading::GoOn(room);
-    }
-    if room - there < more {
-        return Reading::GoOn(room);
-    }
-    Reading::GoOn(there + more)
 }

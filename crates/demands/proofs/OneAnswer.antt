@@ -199,7 +199,10 @@ asking =
       is-standard = λ κs a. (tt, λ r r′ e e′ p q. equation-settles p q);
       is-summary = λ κs a. (tt, λ r r′ e e′ p q. equation-settles p q);
       listen-asked = λ κs a. (tt, λ r r′ e e′ p q. equation-settles p q);
-      after-read = λ κs a. (tt, λ r r′ e e′ p q. equation-settles p q);
+      after = λ κs a. (tt, λ r r′ e e′ p q. equation-settles p q);
+      there = λ κs a. (tt, λ r r′ e e′ p q. equation-settles p q);
+      goes-on = λ κs a. (tt, λ r r′ e e′ p q. equation-settles p q);
+      failed = λ κs a. (tt, λ r r′ e e′ p q. equation-settles p q);
     }
 
 answers : Answers

@@ -57,7 +57,8 @@ line-apart : (e number place : ℕ)
     ≡ codes "exercise " ++ (decimalOf e ++ behind number place)
 unfolding lineOf behind
 line-apart e number place =
-    regroup (codes "exercise ") (decimalOf e) (codes " answer ") (decimalOf number) (labelled " place " place) (codes "\n")
+    regroup (codes "exercise ") (decimalOf e) (codes " answer ") (decimalOf number) (labelled " place " place)
+    (codes "\n")
 
 -- a label in front of two texts is taken off
 no-label : (label x y : List ℕ) → label ++ x ≡ label ++ y → x ≡ y
@@ -77,7 +78,8 @@ module _ (e number place n : ℕ) (h : number ≤ 7) where
   line-passes same =
       let apart : codes "exercise " ++ (decimalOf e ++ behind number place)
       ≡ codes "exercise " ++ (decimalOf n ++ codes " answer 0 place 0\n") =
-      sym (line-apart e number place) ∙ same ∙ append-assoc (codes "exercise ") (decimalOf n) (codes " answer 0 place 0\n") in
+      sym (line-apart e number place) ∙ same
+      ∙ append-assoc (codes "exercise ") (decimalOf n) (codes " answer 0 place 0\n") in
       let digits = no-label (codes "exercise ") _ _ apart in
       let exercise = same-number e n _ _ digits in
       let rest = no-label (decimalOf e) (behind number place) (codes " answer 0 place 0\n")
@@ -103,16 +105,19 @@ module _ (sheet input : List ℕ) (n : ℕ) where
   unfolding markLine markedOf
   says-only same =
       let v : Verdict = markOf sheet (exerciseIn input) (submissionIn input) in
-      let (e, zero) = line-passes (exerciseIn input) (numberOf v) (placeOf v) n (number-most v) same in
-      (e, subst (Conditions sheet (submissionIn input)) e
-      (passed-exactly sheet (exerciseIn input) (submissionIn input) .0 zero))
+      let (e, zero) = line-passes (exerciseIn input) (numberOf v) (placeOf v) n (number-most v) same in (
+        e,
+        subst (Conditions sheet (submissionIn input)) e
+            (passed-exactly sheet (exerciseIn input) (submissionIn input) .0 zero),
+      )
 
   says-if : (exerciseIn input ≡ n) × Conditions sheet (submissionIn input) n → markLine sheet input ≡ passLine n
   unfolding markLine markedOf
   says-if (e, rules) =
       let passed = rules-passed sheet (exerciseIn input) (submissionIn input)
       (subst (Conditions sheet (submissionIn input)) (sym e) rules) in
-      ap (λ (v : Verdict). lineOf (withVerdict (exerciseIn input) v)) passed ∙ pass-line (exerciseIn input) ∙ ap passLine e
+      ap (λ (v : Verdict). lineOf (withVerdict (exerciseIn input) v)) passed ∙ pass-line (exerciseIn input)
+      ∙ ap passLine e
 
 says-passed : SaysPassed
 says-passed sheet input n = (says-only sheet input n, says-if sheet input n)

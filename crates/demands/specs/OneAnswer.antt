@@ -27,6 +27,7 @@ use Rattle.telling.proofs as telling
 use Rattle.recording.proofs as recording
 use Rattle.asking.proofs as asking
 use Rattle.asking.proofs.exercise as exercise
+use Rattle.asking.proofs.reading as reading
 use Rattle.keys.proofs as keys
 use Rattle.encoder.proofs as encoder
 use Rattle.marker.specs.Steps.{maskBits, has}
@@ -257,7 +258,7 @@ pub record Recording : Type 0 where
   pub count-lines : OneExit recording.«count_lines».ended (λ κs e. now (e .1 .0)) recording.«count_lines».Reads.Asked
       recording.«count_lines».Reads.Learnt
 
--- asking: the arguments of a program, and a call that reads
+-- asking: the arguments of a program, and reading call by call
 pub record Asking : Type 0 where
   pub named : OneAnswer exercise.named.ended exercise.named.Reads.Asked exercise.named.Reads.Learnt
   pub is-standard : OneAnswer asking.«is_standard».ended asking.«is_standard».Reads.Asked
@@ -266,8 +267,10 @@ pub record Asking : Type 0 where
       asking.«is_summary».Reads.Learnt
   pub listen-asked : OneAnswer asking.«listen_asked».ended asking.«listen_asked».Reads.Asked
       asking.«listen_asked».Reads.Learnt
-  pub after-read : OneAnswer asking.«after_read».ended asking.«after_read».Reads.Asked
-      asking.«after_read».Reads.Learnt
+  pub after : OneAnswer reading.after.ended reading.after.Reads.Asked reading.after.Reads.Learnt
+  pub there : OneAnswer reading.there.ended reading.there.Reads.Asked reading.there.Reads.Learnt
+  pub goes-on : OneAnswer reading.«goes_on».ended reading.«goes_on».Reads.Asked reading.«goes_on».Reads.Learnt
+  pub failed : OneAnswer reading.failed.ended reading.failed.Reads.Asked reading.failed.Reads.Learnt
 
 -- answers: what `mark` and `encode` write, and the buffers for what they read
 pub record Answers : Type 0 where
@@ -278,7 +281,8 @@ pub record Answers : Type 0 where
   pub marked : OneAnswer answers.marked.ended answers.marked.Reads.Asked answers.marked.Reads.Learnt
   pub mark-line : OneExit answers.«mark_line».ended (λ κs e. now (e .1 .1 .0)) answers.«mark_line».Reads.Asked
       answers.«mark_line».Reads.Learnt
-  pub encode-output : OneExit answers.«encode_output».ended (λ κs e. now (e .1 .1 .0)) answers.«encode_output».Reads.Asked
+  pub encode-output : OneExit answers.«encode_output».ended (λ κs e. now (e .1 .1 .0))
+      answers.«encode_output».Reads.Asked
       answers.«encode_output».Reads.Learnt
   pub encode-error : OneExit answers.«encode_error».ended (λ κs e. now (e .1 .1 .0)) answers.«encode_error».Reads.Asked
       answers.«encode_error».Reads.Learnt

@@ -1,5 +1,6 @@
--- What people see: the line that `mark` prints and what `encode` writes, for the bytes of a sheet and of an input, one byte
--- of exercise number and then the submission. The programs' buffers hold these texts whole; the part with io only moves them.
+-- What people see: the line that `mark` prints and what `encode` writes, for the bytes of a sheet and of an input, one
+-- byte of exercise number and then the submission. The programs' buffers hold these texts whole; the part with io only
+-- moves them.
 use Prim.Native.Nat.{ℕ, _≤_}
 use mathlib.Core.Path.{_≡_}
 use mathlib.Core.Logic.{_↔_}
@@ -22,8 +23,8 @@ use Rattle.demands.specs.Passing.{IsPassed}
 abbrev pub passLine : ℕ → List ℕ
 passLine n = codes "exercise " ++ decimalOf n ++ codes " answer 0 place 0\n"
 
--- The line says answer 0 for exercise N exactly if N is the exercise of the input, its key is there and good, the length of
--- the submission is right, and every marking rule holds: the conditions of demand 3a, for those bytes.
+-- The line says answer 0 for exercise N exactly if N is the exercise of the input, its key is there and good, the
+-- length of the submission is right, and every marking rule holds: the conditions of demand 3a, for those bytes.
 abbrev pub SaysPassed : Type 0
 SaysPassed =
     (sheet input : List ℕ) (n : ℕ) →
@@ -31,8 +32,8 @@ SaysPassed =
     ↔ ((exerciseIn input ≡ n)
     × (KeyGood sheet n × GoodLength (submissionIn input) × Rules (keyAt sheet n) (submissionIn input)))
 
--- What `encode` writes to standard output for a good key passes, and nothing is said on standard error; where it is refused
--- nothing is written to standard output, and the number of the refusal is said.
+-- What `encode` writes to standard output for a good key passes, and nothing is said on standard error; where it is
+-- refused nothing is written to standard output, and the number of the refusal is said.
 pub record EncodeWrites : Type 0 where
   pub passes : (sheet : List ℕ) (n : ℕ) → Bytes sheet → KeyGood sheet n → IsPassed sheet n (outputOf sheet n)
   pub quiet : (sheet : List ℕ) (n : ℕ) → KeyGood sheet n → errorOf sheet n ≡ []

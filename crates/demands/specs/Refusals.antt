@@ -103,8 +103,8 @@ pub record RowSeven : Type 0 where
       ↔ (Opened sheet n s × BlocksRight s × NoneBefore (keyAt sheet n) s (groupsIn s)
       × LowestMissing (keyAt sheet n) s a)
 
--- 8: encoder: buffer too short; also a buffer for a group, from byte `at` on, one for a receiver's state, and one for a text
--- (a line of `mark` or `listen`, what `encode` writes)
+-- 8: encoder: buffer too short; also a buffer for a group, from byte `at` on, one for a receiver's state, and one for a
+-- text (a line of `mark` or `listen`, what `encode` writes)
 pub record RowEight : Type 0 where
   pub encode : (sheet : List ℕ) (n room : ℕ)
       → (encoded sheet n room ≡ 8)

@@ -1,5 +1,5 @@
-// The desk of the programs `mark` and `encode`: reads the key sheet and what is handed in, and writes what `answers` makes
-// of them. It only moves bytes.
+// The desk of the programs `mark` and `encode`: reads the key sheet and what is handed in, and writes what `answers`
+// makes of them. It only moves bytes.
 ghost use Rattle.io.specs.Counts.{Counts};
 use answers::ERROR_ROOM;
 use answers::LINE_ROOM;
@@ -21,8 +21,9 @@ pub fn mark() {
     }
 }
 
-// The program `encode`: the encoding to standard output, or the number of its refusal to standard error. Without arguments
-// the sheet is the file `key`, and the exercise comes from standard input; else they are named, KEYFILE EXERCISE.
+// The program `encode`: the encoding to standard output, or the number of its refusal to standard error. Without
+// arguments the sheet is the file `key`, and the exercise comes from standard input; else they are named, KEYFILE
+// EXERCISE.
 pub fn encode() {
     let count = os::arg_count();
     if count <= 1 {

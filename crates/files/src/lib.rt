@@ -1,39 +1,31 @@
-// Files and standard streams: opens, reads and writes, and says on standard error what failed. It only moves bytes: what is
-// read is given as so many bytes of a buffer, and a file that cannot be opened or read to its end counts as no bytes.
+// Files and standard streams: opens, reads and writes, and says on standard error what failed. It only moves bytes:
+// what is read is given as so many bytes of a buffer, and a file that cannot be opened or read to its end counts as no
+// bytes.
 ghost use mathlib.Core.Path.{_≡_};
 ghost use mathlib.Core.Bool.{true};
 ghost use lib.IntN.{pos};
+ghost use Rattle.asking.specs.Reading.{thereOf};
 ghost use Rattle.asking.specs.Words.{isStandard};
 ghost use Rattle.io.specs.Counts.{Counts};
-ghost use Rattle.files.specs.Filled.{FilledWithin};
-use asking::Reading;
+use asking::reading;
+use asking::reading::Reading;
 use libc::STDIN_FILENO;
 
-// Whether an input was read: so many bytes of it, up to its end or the buffer's, or a read failed.
-pub enum Filled {
-    Bytes(usize),
-    Failed,
-}
-
-// Reads until the buffer is full, the input ends or a read fails; a failed read is not taken for the end.
-pub fn fill(input: i32, buffer: &mut [u8]) -> Filled
-    ensures { λ r. ⌜ FilledWithin r (now (buffer .exit)) ⌝ }
+// Reads until the buffer is full, the input ends or a call fails, and answers which, with the bytes that are there.
+pub fn fill(input: i32, buffer: &mut [u8]) -> Reading
+    ensures { λ r. ⌜ Counts (thereOf r) (now (buffer .exit)) ⌝ }
 {
-    let mut done: usize = 0;
-    while done < buffer.len() {
-        let got = libc::read(input, &mut buffer[done..]);
-        match asking::after_read(done, got, buffer.len()) {
-            Reading::GoOn(there) => {
-                done = there;
-            }
-            Reading::Ended(there) => return Filled::Bytes(there),
-            Reading::Failed => return Filled::Failed,
-        }
+    let mut reading = Reading::GoOn(0);
+    while reading::goes_on(reading, buffer.len()) {
+        let at = reading::there(reading);
+        let got = libc::read(input, &mut buffer[at..]);
+        reading = reading::after(reading, got, buffer.len());
     }
-    Filled::Bytes(done)
+    reading
 }
 
-// Opens a file for reading, `-` being standard input; where that fails it is said, unless the file may be absent and is.
+// Opens a file for reading, `-` being standard input; where that fails it is said, unless the file may be absent and
+// is.
 pub fn open(name: &[u8], may_be_absent: bool) -> i32
     ensures { λ r. ⌜ (isStandard (now (name .entry)) ≡ true → r ≡ pos 0) ⌝ }
 {
@@ -65,17 +57,12 @@ pub fn read_file(name: &[u8], may_be_absent: bool, buffer: &mut [u8]) -> usize
     if file < 0 {
         return 0;
     }
-    match fill(file, buffer) {
-        Filled::Bytes(length) => {
-            close(file);
-            length
-        }
-        Filled::Failed => {
-            say_failed(name);
-            close(file);
-            0
-        }
+    let reading = fill(file, buffer);
+    if reading::failed(reading) {
+        say_failed(name);
     }
+    close(file);
+    reading::there(reading)
 }
 
 // Says why a file failed, by its name.

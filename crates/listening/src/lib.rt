@@ -1,9 +1,10 @@
-// The program `listen`: reads a recording in pieces of at most 64 KiB, feeds it to the receiver, and writes the lines that
-// `recording` makes of it. It only moves bytes.
+// The program `listen`: reads a recording in pieces of at most 64 KiB, feeds it to the receiver, and writes the lines
+// that `recording` makes of it. It only moves bytes.
 ghost use mathlib.Core.Path.{_≡_};
 ghost use Rattle.recording.specs.Ear.{hearOf};
 use asking::ListenAsked;
-use asking::Reading;
+use asking::reading;
+use asking::reading::Reading;
 use libc::STDERR_FILENO;
 use libc::STDIN_FILENO;
 use libc::STDOUT_FILENO;
@@ -53,8 +54,8 @@ fn listen_to(argument: usize, short: bool) {
     files::close(file);
 }
 
-// Hears a file to its end, and writes the summary. A read that fails is said, and is not taken for the end: then no summary
-// is written.
+// Hears a file to its end, and writes the summary. A read that fails is said, and is not taken for the end: then no
+// summary is written.
 fn hear_file(file: i32, name: &[u8], short: bool) {
     let mut now = Listened {
         ear: recording::fresh(),
@@ -65,7 +66,7 @@ fn hear_file(file: i32, name: &[u8], short: bool) {
     let mut turns = u64::MAX;
     while turns > 0 {
         let got = libc::read(file, &mut piece);
-        match asking::after_read(0, got, PIECE) {
+        match reading::after(Reading::GoOn(0), got, PIECE) {
             Reading::GoOn(length) => {
                 now = hear(now, &piece[..length], short);
             }

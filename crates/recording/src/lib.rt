@@ -1,5 +1,5 @@
-// What is heard of a recording, from answer to answer, and the lines that are told of it, each in a buffer that always has
-// room for it. There is no io here.
+// What is heard of a recording, from answer to answer, and the lines that are told of it, each in a buffer that always
+// has room for it. There is no io here.
 ghost use mathlib.Core.Path.{_≡_};
 ghost use Prim.Native.Nat.{_≤_};
 ghost use lib.ListN.{length};

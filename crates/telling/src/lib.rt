@@ -21,8 +21,8 @@ use letters::Told;
 use lines::Line;
 use station::Record;
 
-// Room for any line of pieces, for a group's line, and for all that is held of a station: a buffer with so much is never
-// too short. A text is written into one of our own first, so that a buffer that is too short stays as it is.
+// Room for any line of pieces, for a group's line, and for all that is held of a station: a buffer with so much is
+// never too short. A text is written into one of our own first, so that a buffer that is too short stays as it is.
 pub const LINE_ROOM: usize = 320;
 
 pub const GROUP_ROOM: usize = 1024;

@@ -41,10 +41,14 @@ same-length c = search needs
 returns : tie.Need-returns
 unfolding errorOf
 returns c =
-    let answered = rw (c .before .before .before .before .before .before .before .before .before .before .before .before .exercise-in .ensures) at (c .before .before .before .before .before .before .before .before .before .before .encode .ensures .0) in
-    tells-within errorRoom (c .before .before .before .before .before .before .put-error .ensures .0)
-    (ap errorText (c .before .before .before .before .before .before .before .before .number .ensures ∙ ap encodedNumber answered))
-    (omega (arith, c .before .before .before .before .before .before .put-error .ensures .1)) (c .before .before .tell .ensures)
+    let after-put-error = c .before .before .before .before .before .before in
+    let after-number = after-put-error .before .before in
+    let after-encode = after-number .before .before in
+    let after-exercise-in = after-encode .before .before in
+    let answered = rw (after-exercise-in .exercise-in .ensures) at (after-encode .encode .ensures .0) in
+    tells-within errorRoom (after-put-error .put-error .ensures .0)
+    (ap errorText (after-number .number .ensures ∙ ap encodedNumber answered))
+    (omega (arith, after-put-error .put-error .ensures .1)) (c .before .before .tell .ensures)
 
 pub encode-error-spec : {M : Type 1} → statement M
 encode-error-spec =

@@ -24,9 +24,10 @@ written-requires c κs = search needs
 
 array-share-prefix-own : tie.Need-array-share-prefix-own
 array-share-prefix-own c =
-    let start = c .before .before .before .before .before .before .before .before in
+    let after-exercise-in = c .before .before .before .before in
+    let start = after-exercise-in .before .before .before .before in
     let count = c .written .ensures ∙ ap writtenOf (c .before .before .encode .ensures .0) in
-    omega (arith, count, written-most (start .args .sheet .now) (c .before .before .before .before .exercise-in .result) outputRoom)
+    omega (arith, count, written-most (start .args .sheet .now) (after-exercise-in .exercise-in .result) outputRoom)
 
 slice-aggregate-tell : tie.Need-slice-aggregate-tell
 slice-aggregate-tell c = sym (length-take-le _ _ (array-share-prefix-own (c .before)))
@@ -40,14 +41,18 @@ same-length c = search needs
 returns : tie.Need-returns
 unfolding outputOf
 returns c =
-    let start = c .before .before .before .before .before .before .before .before .before .before .before .before .before in
+    let after-written = c .before .before .before .before .before in
+    let after-encode = after-written .before .before in
+    let after-exercise-in = after-encode .before .before in
+    let start = after-exercise-in .before .before .before .before in
     let sheet = start .args .sheet .now in
-    let exercise = c .before .before .before .before .before .before .before .before .before .exercise-in .result in
-    let encoded = c .before .before .before .before .before .before .before .encode in
-    let front = ap₂ take (c .before .before .before .before .before .written .ensures ∙ ap writtenOf (encoded .ensures .0)) (encoded .ensures .3)
+    let exercise = after-exercise-in .exercise-in .result in
+    let encoded = after-encode .encode in
+    let front = ap₂ take (after-written .written .ensures ∙ ap writtenOf (encoded .ensures .0)) (encoded .ensures .3)
     ∙ written-front sheet exercise (replicate outputRoom 0) in
-    let input = c .before .before .before .before .before .before .before .before .before .exercise-in .ensures in
-    rw (← input) (tells-short-enough outputRoom (output-most sheet exercise) (rw front at (c .before .before .tell .ensures)))
+    let input = after-exercise-in .exercise-in .ensures in
+    rw (← input)
+    (tells-short-enough outputRoom (output-most sheet exercise) (rw front at (c .before .before .tell .ensures)))
 
 pub encode-output-spec : {M : Type 1} → statement M
 encode-output-spec =

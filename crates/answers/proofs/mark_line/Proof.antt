@@ -31,8 +31,10 @@ same-length c = search needs
 returns : tie.Need-returns
 unfolding markLine
 returns c =
-    tells-within lineRoom (c .before .before .before .before .before .before .put-line .ensures .0) (ap lineOf (c .before .before .before .before .before .before .before .before .marked .ensures))
-    (omega (arith, c .before .before .before .before .before .before .put-line .ensures .1)) (c .before .before .tell .ensures)
+    let after-put-line = c .before .before .before .before .before .before in
+    let after-marked = after-put-line .before .before in
+    tells-within lineRoom (after-put-line .put-line .ensures .0) (ap lineOf (after-marked .marked .ensures))
+    (omega (arith, after-put-line .put-line .ensures .1)) (c .before .before .tell .ensures)
 
 pub mark-line-spec : {M : Type 1} → statement M
 mark-line-spec =

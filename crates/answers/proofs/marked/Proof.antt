@@ -15,8 +15,9 @@ with-verdict-requires c κs = search needs
 
 returns : tie.Need-returns
 returns c =
+    let start = c .before .before .before .before .before in
     rw (c .before .mark .ensures .0) at (c .with-verdict .ensures)
-    ∙ nothing-marked (c .before .before .before .before .before .args .sheet .now) (c .before .before .before .before .before .args .input .now) (omega arith)
+    ∙ nothing-marked (start .args .sheet .now) (start .args .input .now) (omega arith)
 
 shared-slice-read-exercise : tie.Need-shared-slice-read-exercise
 shared-slice-read-exercise c = search needs

@@ -9,7 +9,8 @@ use Rattle.answers.proofs.put_error.Tie as tie
 
 returns : tie.Need-returns
 returns c =
-    rw (eq-eqb (c .before .before .args .number) 0 (omega arith)) (wrote-none (c .before .before .args .out .now) 0, omega arith)
+    rw (eq-eqb (c .before .before .args .number) 0 (omega arith))
+    (wrote-none (c .before .before .args .out .now) 0, omega arith)
 
 slice-aggregate-put-labelled : tie.Need-slice-aggregate-put-labelled
 slice-aggregate-put-labelled c = search needs
@@ -25,10 +26,11 @@ same-length c = search needs
 
 returns-2 : tie.Need-returns-2
 returns-2 c =
-    let start = c .before .before .before .before .before .before .before .before .before .before .before in
+    let after-put-labelled = c .before .before .before .before .before .before in
+    let start = after-put-labelled .before .before .before .before .before in
     let end = put-wrote (omega arith) (c .before .before .put-byte .ensures) in
     rw (ne-eqb (start .args .number) 0 (λ e. omega arith))
-    (wrote-two (start .args .out .now) 0 (omega arith) (c .before .before .before .before .before .before .put-labelled .ensures .0) end, omega arith)
+    (wrote-two (start .args .out .now) 0 (omega arith) (after-put-labelled .put-labelled .ensures .0) end, omega arith)
 
 pub put-error-spec : {M : Type 1} → statement M
 put-error-spec =

@@ -40,11 +40,13 @@ same-length c = search needs
 returns : tie.Need-returns
 unfolding lineOf
 returns c =
-    let start = c .before .before .before .before .before .before .before .before .before .before .before .before .before .before .before .before .before .before .before .before .before .before in
-    let out = start .args .out .now in
+    let third = c .before .before .before .before .before .before in
+    let second = third .before .before .before .before .before in
+    let first = second .before .before .before .before .before .before in
+    let out = first .before .before .before .before .before .args .out .now in
     let end = put-wrote (omega arith) (c .before .before .put-byte .ensures) in
-    let two = wrote-two out 0 (omega arith) (c .before .before .before .before .before .before .before .before .before .before .before .before .before .before .before .before .before .put-labelled .ensures .0) (c .before .before .before .before .before .before .before .before .before .before .before .put-labelled2 .ensures .0) in
-    let three = wrote-two out 0 (omega arith) two (c .before .before .before .before .before .before .put-labelled3 .ensures .0) in
+    let two = wrote-two out 0 (omega arith) (first .put-labelled .ensures .0) (second .put-labelled2 .ensures .0) in
+    let three = wrote-two out 0 (omega arith) two (third .put-labelled3 .ensures .0) in
     (wrote-two out 0 (omega arith) three end, omega arith)
 
 pub put-line-spec : {M : Type 1} → statement M

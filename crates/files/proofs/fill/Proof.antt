@@ -1,76 +1,74 @@
--- `files::fill` meets its promise: what was read stays within the buffer, and each turn reads something or ends.
-use Prim.Native.Nat.{_≤_, _-_}
-use mathlib.Core.Path.{_≡_}
+-- `files::fill` meets its promise: what is there stays within the buffer, and with each call less is left to read.
+use Prim.Native.Nat.{_≤_}
+use mathlib.Core.Path.{_≡_, refl}
 use native.Mathlib.Omega.{arith}
 use borrow.Author.Needs.{needs}
 use lib.ListN.{length}
-use Rattle.asking.proofs.Calls.{goes-on, ends-there}
+use Rattle.asking.specs.Reading.{thereOf}
+use Rattle.asking.proofs.Calls.{goes-within, leftOf, turn-within, turn-less}
 use Rattle.files.proofs.Counting.{counts-within}
 use Rattle.files.proofs.fill.Statement.{statement}
 use Rattle.files.proofs.fill.Tie as tie
 
 abbrev Inv-loop : tie.InvT-loop
-Inv-loop input buffer₀ done₀ buffer done = (done ≤ length buffer) × (length buffer ≡ length buffer₀)
+Inv-loop input buffer₀ reading₀ buffer reading =
+    (thereOf reading ≤ length buffer) × (length buffer ≡ length buffer₀)
 
 abbrev μ-loop : tie.MeasureT-loop
-μ-loop input buffer₀ done₀ buffer done = length buffer - done
+μ-loop input buffer₀ reading₀ buffer reading = leftOf reading (length buffer)
 
 loop-holds : tie.Need-loop-holds Inv-loop μ-loop
-loop-holds c = search needs
+loop-holds c = (omega arith, refl)
+
+goes-on-requires : tie.Need-goes-on-requires Inv-loop μ-loop
+goes-on-requires c κs = search needs
+
+there-requires : tie.Need-there-requires Inv-loop μ-loop
+there-requires c κs = search needs
 
 sub-read : tie.Need-sub-read Inv-loop μ-loop
-sub-read c = search needs
+sub-read c =
+    let turn = c .before .before .before .loop in
+    let goes = rw (c .before .before .goes-on .ensures) at (c .before .if1 .taken) in
+    omega (arith, goes-within (turn .reading) (length (turn .buffer)) goes, c .there .ensures)
 
 part-read-start : tie.Need-part-read-start Inv-loop μ-loop
-part-read-start c = search needs
+part-read-start c =
+    let turn = c .before .before .before .loop in
+    let goes = rw (c .before .before .goes-on .ensures) at (c .before .if1 .taken) in
+    omega (arith, goes-within (turn .reading) (length (turn .buffer)) goes, c .there .ensures)
 
 part-read-end : tie.Need-part-read-end Inv-loop μ-loop
-part-read-end c = search needs
+part-read-end c =
+    let turn = c .before .before .before .loop in
+    let goes = rw (c .before .before .goes-on .ensures) at (c .before .if1 .taken) in
+    omega (arith, goes-within (turn .reading) (length (turn .buffer)) goes, c .there .ensures)
 
 read-requires : tie.Need-read-requires Inv-loop μ-loop
 read-requires c κs = search needs
 
-after-read-requires : tie.Need-after-read-requires Inv-loop μ-loop
-after-read-requires c κs = search needs
-
-enum-known-there : tie.Need-enum-known-there Inv-loop μ-loop
-enum-known-there c = search needs
+after-requires : tie.Need-after-requires Inv-loop μ-loop
+after-requires c κs = search needs
 
 loop-less : tie.Need-loop-less Inv-loop μ-loop
 loop-less c =
-    let more = goes-on _ _ _ (c .before .there .given .1) (c .before .before .before .after-read .ensures) (omega arith) in
-    omega arith
+    let test = c .before .before .before .before .before .before in
+    let turn = test .before .before .loop in
+    turn-less (turn .reading) _ _ (length (turn .buffer)) _ (c .after .ensures) (search needs)
+    (rw (test .before .goes-on .ensures) at (test .if1 .taken))
 
 loop-again : tie.Need-loop-again Inv-loop μ-loop
 loop-again c =
-    let more = goes-on _ _ _ (c .before .there .given .1) (c .before .before .before .after-read .ensures) (omega arith) in
-    (omega arith, search needs)
-
-enum-known-there-2 : tie.Need-enum-known-there-2 Inv-loop μ-loop
-enum-known-there-2 c = search needs
+    let turn = c .before .before .before .before .before .before .before .before .loop in (
+      turn-within (turn .reading) _ _ (length (turn .buffer)) _ (c .after .ensures) (search needs) (turn .inv .0),
+      search needs,
+    )
 
 same-length : tie.Need-same-length Inv-loop μ-loop
 same-length c = search needs
 
 returns : tie.Need-returns Inv-loop μ-loop
-returns c =
-    let all = ends-there _ _ _ (c .before .there2 .given .1) (c .before .before .before .after-read .ensures) in
-    counts-within _ _ (omega arith)
-
-enum-told : tie.Need-enum-told Inv-loop μ-loop
-enum-told c = search needs
-
-same-length-2 : tie.Need-same-length-2 Inv-loop μ-loop
-same-length-2 c = search needs
-
-returns-2 : tie.Need-returns-2 Inv-loop μ-loop
-returns-2 c = search needs
-
-same-length-3 : tie.Need-same-length-3 Inv-loop μ-loop
-same-length-3 c = search needs
-
-returns-3 : tie.Need-returns-3 Inv-loop μ-loop
-returns-3 c = counts-within _ _ (c .before .loop .inv .0)
+returns c = counts-within _ _ (c .before .before .loop .inv .0)
 
 pub fill-spec : {M : Type 1} → statement M
 fill-spec =
@@ -79,19 +77,14 @@ fill-spec =
     Inv-loop
     μ-loop
     loop-holds
+    goes-on-requires
+    there-requires
     sub-read
     part-read-start
     part-read-end
     read-requires
-    after-read-requires
-    enum-known-there
+    after-requires
     loop-less
     loop-again
-    enum-known-there-2
     same-length
-    returns
-    enum-told
-    same-length-2
-    returns-2
-    same-length-3
-    returns-3)
+    returns)

@@ -14,7 +14,9 @@ put-character-requires : tie.Need-put-character-requires
 put-character-requires c κs = search needs
 
 array-share-prefix-own : tie.Need-array-share-prefix-own
-array-share-prefix-own c = omega (arith, character-most (c .before .before .before .before .args .character), c .before .put-character .ensures .to)
+array-share-prefix-own c =
+    let start = c .before .before .before .before in
+    omega (arith, character-most (start .args .character), c .before .put-character .ensures .to)
 
 slice-aggregate-put : tie.Need-slice-aggregate-put
 slice-aggregate-put c = count-front _ _ (c .before .before .put-character .ensures)
@@ -26,7 +28,9 @@ same-length : tie.Need-same-length
 same-length c = search needs
 
 returns : tie.Need-returns
-returns c = put-front (c .before .before .before .before .before .before .put-character .ensures) (c .before .before .put .ensures)
+returns c =
+    let after-put-character = c .before .before .before .before .before .before in
+    put-front (after-put-character .put-character .ensures) (c .before .before .put .ensures)
 
 pub put-character-spec : {M : Type 1} → statement M
 put-character-spec =

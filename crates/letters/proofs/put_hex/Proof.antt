@@ -14,7 +14,9 @@ put-hex-requires : tie.Need-put-hex-requires
 put-hex-requires c κs = search needs
 
 array-share-prefix-own : tie.Need-array-share-prefix-own
-array-share-prefix-own c = omega (arith, hex-most (c .before .before .before .before .args .word), c .before .put-hex .ensures .to)
+array-share-prefix-own c =
+    let start = c .before .before .before .before in
+    omega (arith, hex-most (start .args .word), c .before .put-hex .ensures .to)
 
 slice-aggregate-put : tie.Need-slice-aggregate-put
 slice-aggregate-put c = count-front _ _ (c .before .before .put-hex .ensures)
@@ -26,7 +28,9 @@ same-length : tie.Need-same-length
 same-length c = search needs
 
 returns : tie.Need-returns
-returns c = put-front (c .before .before .before .before .before .before .put-hex .ensures) (c .before .before .put .ensures)
+returns c =
+    let after-put-hex = c .before .before .before .before .before .before in
+    put-front (after-put-hex .put-hex .ensures) (c .before .before .put .ensures)
 
 pub put-hex-spec : {M : Type 1} → statement M
 put-hex-spec =

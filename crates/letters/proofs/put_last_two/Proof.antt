@@ -24,7 +24,9 @@ same-length : tie.Need-same-length
 same-length c = search needs
 
 returns : tie.Need-returns
-returns c = put-front (c .before .before .before .before .before .before .put-last-two .ensures) (c .before .before .put .ensures)
+returns c =
+    let after-put-last-two = c .before .before .before .before .before .before in
+    put-front (after-put-last-two .put-last-two .ensures) (c .before .before .put .ensures)
 
 pub put-last-two-spec : {M : Type 1} → statement M
 put-last-two-spec =

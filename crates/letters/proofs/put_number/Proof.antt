@@ -24,7 +24,9 @@ same-length : tie.Need-same-length
 same-length c = search needs
 
 returns : tie.Need-returns
-returns c = put-front (c .before .before .before .before .before .before .put-number .ensures .0) (c .before .before .put .ensures)
+returns c =
+    let after-put-number = c .before .before .before .before .before .before in
+    put-front (after-put-number .put-number .ensures .0) (c .before .before .put .ensures)
 
 pub put-number-spec : {M : Type 1} → statement M
 put-number-spec =

@@ -24,7 +24,9 @@ same-length : tie.Need-same-length
 same-length c = search needs
 
 returns : tie.Need-returns
-returns c = put-front (c .before .before .before .before .before .before .put-word .ensures .0) (c .before .before .put .ensures)
+returns c =
+    let after-put-word = c .before .before .before .before .before .before in
+    put-front (after-put-word .put-word .ensures .0) (c .before .before .put .ensures)
 
 pub put-word-spec : {M : Type 1} → statement M
 put-word-spec =

@@ -1,4 +1,5 @@
--- `listening::hear` meets its promise: before each turn the rest of the bits is still to be heard, and each turn moves on.
+-- `listening::hear` meets its promise: before each turn the rest of the bits is still to be heard, and each turn moves
+-- on.
 use Prim.Native.Nat.{_*_, _-_, _<_}
 use mathlib.Core.Path.{_≡_, sym, _∙_}
 use native.Mathlib.Omega.{arith}
@@ -52,8 +53,9 @@ bits-after-requires c κs = search needs
 
 returns : tie.Need-returns Inv-loop μ-loop
 returns c =
+    let start = c .before .before .before .before .before in
     let turn = c .before .before .loop in
-    sym (turn .inv .1 ∙ hear-last (turn .ear) (c .before .before .before .before .before .args .piece .now) (turn .byte) (turn .bit) (omega arith))
+    sym (turn .inv .1 ∙ hear-last (turn .ear) (start .args .piece .now) (turn .byte) (turn .bit) (omega arith))
 
 pub hear-spec : {M : Type 1} → statement M
 hear-spec =

@@ -4,7 +4,7 @@ use native.Mathlib.Omega.{arith}
 use borrow.Author.Needs.{needs}
 use lib.ListN.{length}
 use lib.Seq.{length-take-le}
-use Rattle.asking.proofs.Calls.{goes-on}
+use Rattle.asking.proofs.Calls.{piece-within}
 use Rattle.listening.proofs.hear_file.Statement.{statement}
 use Rattle.listening.proofs.hear_file.Tie as tie
 
@@ -26,15 +26,15 @@ slice-aggregate-read c = search needs
 read-requires : tie.Need-read-requires Inv-loop μ-loop
 read-requires c κs = search needs
 
-after-read-requires : tie.Need-after-read-requires Inv-loop μ-loop
-after-read-requires c κs = search needs
+after-requires : tie.Need-after-requires Inv-loop μ-loop
+after-requires c κs = search needs
 
 enum-known-length : tie.Need-enum-known-length Inv-loop μ-loop
 enum-known-length c = search needs
 
 array-share-prefix-piece : tie.Need-array-share-prefix-piece Inv-loop μ-loop
 array-share-prefix-piece c =
-    let more = goes-on _ _ _ (c .before .length .given .1) (c .before .before .before .after-read .ensures) (omega arith) in
+    let within = piece-within _ _ _ _ (c .before .before .before .after .ensures) (c .before .length .given .1) in
     omega arith
 
 slice-aggregate-hear : tie.Need-slice-aggregate-hear Inv-loop μ-loop
@@ -83,7 +83,7 @@ hear-file-spec =
     loop-holds
     slice-aggregate-read
     read-requires
-    after-read-requires
+    after-requires
     enum-known-length
     array-share-prefix-piece
     slice-aggregate-hear

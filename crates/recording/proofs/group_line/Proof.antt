@@ -36,27 +36,43 @@ enum-told-6 c = search needs
 
 returns-2 : tie.Need-returns-2
 unfolding groupLine
-returns-2 c = rw (c .before .before .before .before .if1 .left, c .enum-told .given .1) (wrote-none (c .before .before .before .before .before .args .out .now) 0, omega arith)
+returns-2 c =
+    let test = c .before .before .before .before in
+    let start = test .before in
+    rw (test .if1 .left, c .enum-told .given .1) (wrote-none (start .args .out .now) 0, omega arith)
 
 returns-3 : tie.Need-returns-3
 unfolding groupLine
-returns-3 c = rw (c .before .before .before .before .if1 .left, c .enum-told2 .given .1) (wrote-none (c .before .before .before .before .before .args .out .now) 0, omega arith)
+returns-3 c =
+    let test = c .before .before .before .before in
+    let start = test .before in
+    rw (test .if1 .left, c .enum-told2 .given .1) (wrote-none (start .args .out .now) 0, omega arith)
 
 returns-4 : tie.Need-returns-4
 unfolding groupLine
-returns-4 c = rw (c .before .before .before .before .before .before .if1 .left, c .before .before .enum-told3 .given .1) (c .whole-group .ensures)
+returns-4 c =
+    let test = c .before .before .before .before .before .before in
+    rw (test .if1 .left, c .before .before .enum-told3 .given .1) (c .whole-group .ensures)
 
 returns-5 : tie.Need-returns-5
 unfolding groupLine
-returns-5 c = rw (c .before .before .before .before .if1 .left, c .enum-told4 .given .1) (wrote-none (c .before .before .before .before .before .args .out .now) 0, omega arith)
+returns-5 c =
+    let test = c .before .before .before .before in
+    let start = test .before in
+    rw (test .if1 .left, c .enum-told4 .given .1) (wrote-none (start .args .out .now) 0, omega arith)
 
 returns-6 : tie.Need-returns-6
 unfolding groupLine
-returns-6 c = rw (c .before .before .before .before .before .before .if1 .left, c .before .before .enum-told5 .given .1) (c .whole-group2 .ensures)
+returns-6 c =
+    let test = c .before .before .before .before .before .before in
+    rw (test .if1 .left, c .before .before .enum-told5 .given .1) (c .whole-group2 .ensures)
 
 returns-7 : tie.Need-returns-7
 unfolding groupLine
-returns-7 c = rw (c .before .before .before .before .if1 .left, c .enum-told6 .given .1) (wrote-none (c .before .before .before .before .before .args .out .now) 0, omega arith)
+returns-7 c =
+    let test = c .before .before .before .before in
+    let start = test .before in
+    rw (test .if1 .left, c .enum-told6 .given .1) (wrote-none (start .args .out .now) 0, omega arith)
 
 pub group-line-spec : {M : Type 1} → statement M
 group-line-spec =

@@ -42,30 +42,48 @@ enum-told-6 c = search needs
 
 returns-2 : tie.Need-returns-2
 unfolding lockLineOf
-returns-2 c = rw (c .before .before .before .if1 .left, c .enum-told .given .1) (wrote-none (c .before .before .before .before .args .out .now) 0, omega arith)
+returns-2 c =
+    let start = c .before .before .before .before in
+    rw (c .before .before .before .if1 .left, c .enum-told .given .1)
+    (wrote-none (start .args .out .now) 0, omega arith)
 
 returns-3 : tie.Need-returns-3
 unfolding lockLineOf
 returns-3 c =
-    rw (c .before .before .before .before .before .if1 .left, c .before .before .enum-told2 .given .1, ← c .before .before .before .before .bit-before .ensures) (c .whole-lock .ensures)
+    let after-bit-before = c .before .before .before .before in
+    let test = after-bit-before .before in
+    rw (test .if1 .left, c .before .before .enum-told2 .given .1, ← after-bit-before .bit-before .ensures)
+    (c .whole-lock .ensures)
 
 returns-4 : tie.Need-returns-4
 unfolding lockLineOf
-returns-4 c = rw (c .before .before .before .if1 .left, c .enum-told3 .given .1) (wrote-none (c .before .before .before .before .args .out .now) 0, omega arith)
+returns-4 c =
+    let start = c .before .before .before .before in
+    rw (c .before .before .before .if1 .left, c .enum-told3 .given .1)
+    (wrote-none (start .args .out .now) 0, omega arith)
 
 returns-5 : tie.Need-returns-5
 unfolding lockLineOf
 returns-5 c =
-    rw (c .before .before .before .before .before .if1 .left, c .before .before .enum-told4 .given .1, ← c .before .before .before .before .bit-before .ensures) (c .whole-loss .ensures)
+    let after-bit-before = c .before .before .before .before in
+    let test = after-bit-before .before in
+    rw (test .if1 .left, c .before .before .enum-told4 .given .1, ← after-bit-before .bit-before .ensures)
+    (c .whole-loss .ensures)
 
 returns-6 : tie.Need-returns-6
 unfolding lockLineOf
 returns-6 c =
-    rw (c .before .before .before .before .before .if1 .left, c .before .before .enum-told5 .given .1, ← c .before .before .before .before .bit-before .ensures) (c .whole-loss2 .ensures)
+    let after-bit-before = c .before .before .before .before in
+    let test = after-bit-before .before in
+    rw (test .if1 .left, c .before .before .enum-told5 .given .1, ← after-bit-before .bit-before .ensures)
+    (c .whole-loss2 .ensures)
 
 returns-7 : tie.Need-returns-7
 unfolding lockLineOf
-returns-7 c = rw (c .before .before .before .if1 .left, c .enum-told6 .given .1) (wrote-none (c .before .before .before .before .args .out .now) 0, omega arith)
+returns-7 c =
+    let start = c .before .before .before .before in
+    rw (c .before .before .before .if1 .left, c .enum-told6 .given .1)
+    (wrote-none (start .args .out .now) 0, omega arith)
 
 pub lock-line-spec : {M : Type 1} → statement M
 lock-line-spec =

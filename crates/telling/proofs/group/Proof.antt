@@ -27,8 +27,9 @@ same-length c = search needs
 
 returns : tie.Need-returns
 returns c =
-    tells-within groupRoom (c .before .before .before .before .before .before .put-group .ensures .0) refl
-    (omega (arith, c .before .before .before .before .before .before .put-group .ensures .1)) (c .before .before .tell .ensures)
+    let after-put-group = c .before .before .before .before .before .before in
+    tells-within groupRoom (after-put-group .put-group .ensures .0) refl
+    (omega (arith, after-put-group .put-group .ensures .1)) (c .before .before .tell .ensures)
 
 pub group-spec : {M : Type 1} → statement M
 group-spec =

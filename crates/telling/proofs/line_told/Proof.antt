@@ -27,8 +27,9 @@ same-length c = search needs
 
 returns : tie.Need-returns
 returns c =
-    tells-within lineRoom (c .before .before .before .before .before .before .put-line .ensures .0) refl
-    (omega (arith, c .before .before .before .before .before .before .put-line .ensures .1)) (c .before .before .tell .ensures)
+    let after-put-line = c .before .before .before .before .before .before in
+    tells-within lineRoom (after-put-line .put-line .ensures .0) refl
+    (omega (arith, after-put-line .put-line .ensures .1)) (c .before .before .tell .ensures)
 
 pub line-told-spec : {M : Type 1} → statement M
 line-told-spec =

@@ -27,8 +27,9 @@ same-length c = search needs
 
 returns : tie.Need-returns
 returns c =
-    tells-within stationRoom (c .before .before .before .before .before .before .put-station .ensures .0) refl
-    (omega (arith, c .before .before .before .before .before .before .put-station .ensures .1)) (c .before .before .tell .ensures)
+    let after-put-station = c .before .before .before .before .before .before in
+    tells-within stationRoom (after-put-station .put-station .ensures .0) refl
+    (omega (arith, after-put-station .put-station .ensures .1)) (c .before .before .tell .ensures)
 
 pub record-lines-spec : {M : Type 1} → statement M
 record-lines-spec =

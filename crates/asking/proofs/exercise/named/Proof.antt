@@ -1,4 +1,5 @@
--- `asking::exercise::named` meets its promise: before each turn the rest of the text spells the exercise, behind what was read.
+-- `asking::exercise::named` meets its promise: before each turn the rest of the text spells the exercise, behind what
+-- was read.
 use Prim.Native.Nat.{_-_, _≤_}
 use mathlib.Core.Path.{_≡_, sym, _∙_}
 use native.Mathlib.Omega.{arith}
@@ -31,8 +32,10 @@ is-digit-requires c κs = search needs
 
 returns-2 : tie.Need-returns-2 Inv-loop μ-loop
 returns-2 c =
-    let turn = c .before .before .before .before .loop in
-    sym (turn .inv .2 ∙ other-named (c .before .before .before .before .before .before .before .args .text .now) (turn .i) (turn .value)
+    let turns = c .before .before .before .before in
+    let start = turns .before .before .before in
+    let turn = turns .loop in
+    sym (turn .inv .2 ∙ other-named (start .args .text .now) (turn .i) (turn .value)
     (omega arith) (not-true _ (rw (c .before .is-digit .ensures) at (c .if2 .taken))))
 
 mul-value : tie.Need-mul-value Inv-loop μ-loop
@@ -46,8 +49,10 @@ add-value c = search needs
 
 returns-3 : tie.Need-returns-3 Inv-loop μ-loop
 returns-3 c =
-    let turn = c .before .before .before .before .before .before .loop in
-    sym (turn .inv .2 ∙ over-named (c .before .before .before .before .before .before .before .before .before .args .text .now) (turn .i) (turn .value) (omega arith) (omega arith))
+    let turns = c .before .before .before .before .before .before in
+    let start = turns .before .before .before in
+    let turn = turns .loop in
+    sym (turn .inv .2 ∙ over-named (start .args .text .now) (turn .i) (turn .value) (omega arith) (omega arith))
 
 add-i : tie.Need-add-i Inv-loop μ-loop
 add-i c = search needs
@@ -57,11 +62,14 @@ loop-less c = search needs
 
 loop-again : tie.Need-loop-again Inv-loop μ-loop
 loop-again c =
-    let turn = c .before .before .before .before .before .before .loop in (
+    let turns = c .before .before .before .before .before .before in
+    let start = turns .before .before .before in
+    let turn = turns .loop in (
       omega arith,
       omega arith,
-      rw (c .before .worth .ensures .0) (turn .inv .2 ∙ next-named (c .before .before .before .before .before .before .before .before .before .args .text .now) (turn .i) (turn .value)
-          (omega arith) (not-false _ (rw (c .before .before .before .is-digit .ensures) at (c .before .before .if2 .left)))),
+      rw (c .before .worth .ensures .0) (turn .inv .2 ∙ next-named (start .args .text .now) (turn .i) (turn .value)
+          (omega arith)
+          (not-false _ (rw (c .before .before .before .is-digit .ensures) at (c .before .before .if2 .left)))),
     )
 
 cast-t14 : tie.Need-cast-t14 Inv-loop μ-loop
@@ -69,8 +77,9 @@ cast-t14 c = search needs
 
 returns-4 : tie.Need-returns-4 Inv-loop μ-loop
 returns-4 c =
+    let start = c .before .before .before .before in
     let turn = c .before .loop in
-    sym (turn .inv .2 ∙ last-named (c .before .before .before .before .args .text .now) (turn .i) (turn .value) (omega arith) (omega arith))
+    sym (turn .inv .2 ∙ last-named (start .args .text .now) (turn .i) (turn .value) (omega arith) (omega arith))
 
 pub named-spec : {M : Type 1} → statement M
 named-spec =

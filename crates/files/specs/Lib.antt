@@ -1,2 +1,0 @@
--- What the reading of files promises.
-pub mod Filled
