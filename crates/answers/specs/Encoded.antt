@@ -27,15 +27,15 @@ outputText NoKey k = []
 outputText BadKey k = []
 outputText TooShort k = []
 
--- so many bytes of it
+unfoldable pub outputOf : List ℕ → ℕ → List ℕ
+outputOf sheet n = outputText (answerOf sheet n) (keyAt sheet n)
+
+-- so many bytes of the encoder's buffer
 abbrev pub writtenOf : Encoded → ℕ
 writtenOf (Written count) = count
 writtenOf NoKey = 0
 writtenOf BadKey = 0
 writtenOf TooShort = 0
-
-unfoldable pub outputOf : List ℕ → ℕ → List ℕ
-outputOf sheet n = outputText (answerOf sheet n) (keyAt sheet n)
 
 -- to standard error: the line of a refusal, or nothing
 abbrev pub refusalLine : ℕ → List ℕ

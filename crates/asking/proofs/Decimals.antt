@@ -6,12 +6,12 @@ use mathlib.Core.Bool.{Bool, true, false, _&&_, true≢false}
 use native.Mathlib.Omega.{arith}
 use lib.Dec.{ltb}
 use lib.ListN.{length}
-use borrow.Author.Tests.{ltb-true, ltb-false, le-leb}
+use borrow.Author.Tests.{ltb-true, ltb-false, le-leb, lt-leb}
 use Rattle.letters.specs.Letters.{decimalOf}
 use Rattle.letters.proofs.Digits.{digits-small, digits-large, count-small, count-large}
 use Rattle.asking.specs.Exercise.{digitZero, isDigit, allDigits, valueOf, lastExercise, namedFrom, namedOf}
 use Rattle.asking.proofs.Digits.{first-named}
-use Rattle.asking.specs.declared.exercise.ExerciseNamed.the-variants.{Exercise}
+use Rattle.asking.specs.declared.exercise.ExerciseNamed.the-variants.{Exercise, NoExercise}
 
 -- ---- one digit more
 
@@ -109,6 +109,13 @@ unfolding namedFrom
 decimal-named n h =
     first-named (decimalOf n) (decimal-some n)
     ∙ rw (decimal-digits n, decimal-value n, le-leb n lastExercise h)
+
+-- a larger number names none
+pub over-named : (n : ℕ) → lastExercise < n → namedOf (decimalOf n) ≡ NoExercise
+unfolding namedFrom
+over-named n h =
+    first-named (decimalOf n) (decimal-some n)
+    ∙ rw (decimal-digits n, decimal-value n, lt-leb n lastExercise h)
 
 -- leading zeros are just zeros
 pub zero-named : (c : ℕ) (cs : List ℕ) → namedOf (digitZero ∷ c ∷ cs) ≡ namedOf (c ∷ cs)

@@ -7,7 +7,7 @@ use lib.ListN.{length, drop}
 use lib.Seq.{drop-append-seam}
 use Rattle.letters.specs.Letters.{codes, decimalOf}
 use Rattle.letters.proofs.Digits.{digits-small}
-use Rattle.asking.proofs.Decimals.{same-number, decimal-named}
+use Rattle.asking.proofs.Decimals.{same-number, decimal-named, over-named, zero-named}
 use Rattle.keys.specs.Sheet.{HasExercise, keyAt}
 use Rattle.keys.specs.Good.{GoodKey}
 use Rattle.encoder.specs.Encoding.{encoding, sentOf}
@@ -160,6 +160,6 @@ printed =
     record {
       says-passed = says-passed;
       encode-writes = encode-writes;
-      named-back = decimal-named;
+      named = record { back = decimal-named; over = over-named; zeros = zero-named };
       read-enough = read-enough;
     }

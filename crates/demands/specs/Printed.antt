@@ -1,14 +1,14 @@
 -- What people see: the line that `mark` prints and what `encode` writes, for the bytes of a sheet and of an input, one
 -- byte of exercise number and then the submission. The programs' buffers hold these texts whole; the part with io only
 -- moves them.
-use Prim.Native.Nat.{ℕ, _≤_}
+use Prim.Native.Nat.{ℕ, _≤_, _<_}
 use mathlib.Core.Path.{_≡_}
 use mathlib.Core.Logic.{_↔_}
-use mathlib.Core.List.{List, [], _++_}
+use mathlib.Core.List.{List, [], _∷_, _++_}
 use Rattle.bits.specs.Bytes.{Bytes}
 use Rattle.letters.specs.Letters.{codes, decimalOf}
-use Rattle.asking.specs.Exercise.{lastExercise, namedOf}
-use Rattle.asking.specs.declared.exercise.ExerciseNamed.the-variants.{Exercise}
+use Rattle.asking.specs.Exercise.{digitZero, lastExercise, namedOf}
+use Rattle.asking.specs.declared.exercise.ExerciseNamed.the-variants as exercise
 use Rattle.keys.specs.Sheet.{keyAt}
 use Rattle.keys.specs.Good.{GoodKey}
 use Rattle.marker.specs.Rules.{GoodLength, Rules, KeyGood}
@@ -41,13 +41,15 @@ pub record EncodeWrites : Type 0 where
   pub two : (sheet : List ℕ) (n : ℕ) → (NoExercise sheet n → ⊥) → (GoodKey (keyAt sheet n) → ⊥)
       → (outputOf sheet n ≡ []) × (errorOf sheet n ≡ refusalLine 2)
 
--- the exercise that is named by a number's digits is that number
-abbrev pub NamedBack : Type 0
-NamedBack = (n : ℕ) → n ≤ lastExercise → namedOf (decimalOf n) ≡ Exercise n
+-- An exercise by its decimal digits: that number up to 255, none above; leading zeros are just zeros.
+pub record Named : Type 0 where
+  pub back : (n : ℕ) → n ≤ lastExercise → namedOf (decimalOf n) ≡ exercise.Exercise n
+  pub over : (n : ℕ) → lastExercise < n → namedOf (decimalOf n) ≡ exercise.NoExercise
+  pub zeros : (c : ℕ) (cs : List ℕ) → namedOf (digitZero ∷ c ∷ cs) ≡ namedOf (c ∷ cs)
 
 -- all of it, and that what is read suffices: 20,481 bytes of the sheet and 13,314 of the input give the same
 pub record Printed : Type 0 where
   pub says-passed : SaysPassed
   pub encode-writes : EncodeWrites
-  pub named-back : NamedBack
+  pub named : Named
   pub read-enough : ReadEnough
