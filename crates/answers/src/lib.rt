@@ -28,6 +28,7 @@ pub const OUTPUT_ROOM: usize = 260;
 
 pub const ERROR_ROOM: usize = 28;
 
+// The character that ends a line.
 const LINE_END: u8 = 10;
 
 // An exercise, and the number and the place of its answer.
@@ -137,6 +138,7 @@ fn wide(byte: u8) -> usize
     byte as usize
 }
 
+// An exercise, with the number and the place of a verdict.
 fn with_verdict(exercise: u8, verdict: Verdict) -> MarkAnswer
     ensures { λ r. ⌜ r ≡ withVerdict exercise verdict ⌝ }
 {

@@ -1,10 +1,11 @@
--- Texts of one and of two characters, compared.
+-- Texts, compared: those of one and of two characters by their characters, and any two exactly if they are equal.
 use Prim.Native.Nat.{ℕ}
-use mathlib.Core.Path.{_≡_, refl}
+use mathlib.Core.Path.{_≡_, refl, sym, ap₂}
 use mathlib.Core.List.{List, [], _∷_}
-use mathlib.Core.Bool.{Bool, true, false, _&&_}
+use mathlib.Core.Bool.{Bool, true, false, _&&_, true≢false}
 use native.Mathlib.Omega.{arith}
 use lib.Dec.{eqb}
+use borrow.Author.Tests.{eqb-true, eq-eqb}
 use lib.ListN.{length, getD}
 use Rattle.asking.specs.Words.{same}
 
@@ -49,3 +50,21 @@ module _ (c d : ℕ) where
   two-same (x ∷ []) h = absurd (omega arith)
   two-same (x ∷ y ∷ []) h = two-true (eqb x c) (eqb y d)
   two-same (x ∷ y ∷ z ∷ l) h = absurd (omega arith)
+
+-- ---- the same exactly if they are equal
+
+pub same-only : (l m : List ℕ) → same l m ≡ true → l ≡ m
+same-only [] [] e = refl
+same-only [] (d ∷ ds) e = absurd (true≢false (sym e))
+same-only (c ∷ cs) [] e = absurd (true≢false (sym e))
+same-only (c ∷ cs) (d ∷ ds) e =
+    let (first, rest) = both (eqb c d) (same cs ds) e in
+    ap₂ (λ (x : ℕ) (xs : List ℕ). x ∷ xs) (eqb-true c d first) (same-only cs ds rest)
+  where
+    both : (a b : Bool) → (a && b) ≡ true → (a ≡ true) × (b ≡ true)
+    both true b e = (refl, e)
+    both false b e = absurd (true≢false (sym e))
+
+pub same-self : (l : List ℕ) → same l l ≡ true
+same-self [] = refl
+same-self (c ∷ cs) = rw (eq-eqb c c refl) (same-self cs)

@@ -7,6 +7,9 @@ use lib.ListN.{length, drop}
 use lib.Seq.{drop-append-seam}
 use Rattle.letters.specs.Letters.{codes, decimalOf}
 use Rattle.letters.proofs.Digits.{digits-small}
+use Rattle.asking.specs.Words.{isStandard, isSummary}
+use Rattle.asking.proofs.Texts.{same-only, same-self}
+use Rattle.recording.specs.Lines.{groupLine, lockLineOf}
 use Rattle.asking.proofs.Decimals.{same-number, decimal-named, over-named, zero-named}
 use Rattle.keys.specs.Sheet.{HasExercise, keyAt}
 use Rattle.keys.specs.Good.{GoodKey}
@@ -26,7 +29,7 @@ use Rattle.answers.specs.Line.{labelled, withVerdict, markedOf, lineOf, markLin
 use Rattle.answers.specs.Encoded.{outputRoom, outputOf, errorOf, refusalLine}
 use Rattle.answers.proofs.Enough.{read-enough}
 use Rattle.demands.specs.Passing.{IsPassed}
-use Rattle.demands.specs.Printed.{passLine, SaysPassed, EncodeWrites, Printed}
+use Rattle.demands.specs.Printed.{passLine, SaysPassed, EncodeWrites, Asked, Printed}
 use Rattle.demands.proofs.Words.{no-exercise}
 use Rattle.demands.proofs.Marks.{exercise-there}
 use Rattle.demands.proofs.PassingExactly.{is-passed, passed-exactly}
@@ -153,6 +156,18 @@ encode-writes =
       two = λ sheet n some bad. bad-written sheet n (exercise-there sheet n .0 some) bad;
     }
 
+-- ---- what is asked
+
+asked : Asked
+unfolding isStandard isSummary groupLine lockLineOf
+asked =
+    record {
+      standard = λ name. (same-only name (codes "-"), λ e. rw e (same-self (codes "-")));
+      summary = λ argument. (same-only argument (codes "-s"), λ e. rw e (same-self (codes "-s")));
+      no-group = λ ear taken. refl;
+      no-lock = λ before taken. refl;
+    }
+
 -- ---- all of it
 
 pub printed : Printed
@@ -161,5 +176,6 @@ printed =
       says-passed = says-passed;
       encode-writes = encode-writes;
       named = record { back = decimal-named; over = over-named; zeros = zero-named };
+      asked = asked;
       read-enough = read-enough;
     }

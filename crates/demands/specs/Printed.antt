@@ -1,14 +1,19 @@
--- What people see: the line that `mark` prints and what `encode` writes, for the bytes of a sheet and of an input, one
--- byte of exercise number and then the submission. The programs' buffers hold these texts whole; the part with io only
--- moves them.
+-- What people see, and what they ask: the line that `mark` prints and what `encode` writes, for the bytes of a sheet
+-- and of an input, one byte of exercise number and then the submission. The programs' buffers hold these texts whole;
+-- the part with io only moves them.
 use Prim.Native.Nat.{ℕ, _≤_, _<_}
 use mathlib.Core.Path.{_≡_}
 use mathlib.Core.Logic.{_↔_}
 use mathlib.Core.List.{List, [], _∷_, _++_}
+use mathlib.Core.Bool.{true}
 use Rattle.bits.specs.Bytes.{Bytes}
 use Rattle.letters.specs.Letters.{codes, decimalOf}
 use Rattle.asking.specs.Exercise.{digitZero, lastExercise, namedOf}
 use Rattle.asking.specs.declared.exercise.ExerciseNamed.the-variants as exercise
+use Rattle.asking.specs.Words.{isStandard, isSummary}
+use Rattle.receiver.specs.declared.Advanced.{Advanced}
+use Rattle.recording.specs.declared.Ear.{Ear}
+use Rattle.recording.specs.Lines.{groupLine, lockLineOf}
 use Rattle.keys.specs.Sheet.{keyAt}
 use Rattle.keys.specs.Good.{GoodKey}
 use Rattle.marker.specs.Rules.{GoodLength, Rules, KeyGood}
@@ -47,9 +52,18 @@ pub record Named : Type 0 where
   pub over : (n : ℕ) → lastExercise < n → namedOf (decimalOf n) ≡ exercise.NoExercise
   pub zeros : (c : ℕ) (cs : List ℕ) → namedOf (digitZero ∷ c ∷ cs) ≡ namedOf (c ∷ cs)
 
+-- `-` names standard input and `-s` asks for the summary alone, and nothing else does; with it nothing is told of an
+-- answer.
+pub record Asked : Type 0 where
+  pub standard : (name : List ℕ) → (isStandard name ≡ true) ↔ (name ≡ codes "-")
+  pub summary : (argument : List ℕ) → (isSummary argument ≡ true) ↔ (argument ≡ codes "-s")
+  pub no-group : (ear : Ear) (taken : Advanced) → groupLine true ear taken ≡ []
+  pub no-lock : (before : ℕ) (taken : Advanced) → lockLineOf true before taken ≡ []
+
 -- all of it, and that what is read suffices: 20,481 bytes of the sheet and 13,314 of the input give the same
 pub record Printed : Type 0 where
   pub says-passed : SaysPassed
   pub encode-writes : EncodeWrites
   pub named : Named
+  pub asked : Asked
   pub read-enough : ReadEnough

@@ -35,6 +35,7 @@ pub fn encode() {
     }
 }
 
+// Marks what the file `key` and standard input hold. Where there is no such file nothing is said but the line.
 fn mark_unnamed() {
     let mut sheet = answers::sheet_buffer();
     let sheet_length = files::read_file(b"key", true, &mut sheet);
@@ -51,6 +52,7 @@ fn mark_named() {
     }
 }
 
+// Marks what the files hold that the first and the third argument name; the exercise stands in front of the submission.
 fn mark_exercise(exercise: u8) {
     let mut sheet = answers::sheet_buffer();
     let sheet_length = read_argument(1, &mut sheet);
@@ -59,6 +61,7 @@ fn mark_exercise(exercise: u8) {
     write_line(&sheet[..sheet_length], &input[..input_length]);
 }
 
+// Encodes for the sheet in the file `key` and the exercise on standard input, one byte.
 fn encode_unnamed() {
     let mut sheet = answers::sheet_buffer();
     let sheet_length = files::read_file(b"key", true, &mut sheet);
@@ -67,6 +70,7 @@ fn encode_unnamed() {
     write_encoding(&sheet[..sheet_length], &input[..input_length]);
 }
 
+// An exercise that is none is said, and nothing is encoded.
 fn encode_named() {
     match named_exercise() {
         ExerciseNamed::Exercise(exercise) => encode_exercise(exercise),
@@ -74,6 +78,7 @@ fn encode_named() {
     }
 }
 
+// Encodes for the sheet in the file that the first argument names.
 fn encode_exercise(exercise: u8) {
     let mut sheet = answers::sheet_buffer();
     let sheet_length = read_argument(1, &mut sheet);

@@ -1,6 +1,5 @@
-// Files and standard streams: opens, reads and writes, and says on standard error what failed. It only moves bytes:
-// what is read is given as so many bytes of a buffer, and a file that cannot be opened or read to its end counts as no
-// bytes.
+// Files and standard streams: opens and reads, and says on standard error what failed. It only moves bytes: what is read
+// is given as so many bytes of a buffer, and a file that cannot be opened or read to its end counts as no bytes.
 ghost use mathlib.Core.Path.{_≡_};
 ghost use mathlib.Core.Bool.{true};
 ghost use lib.IntN.{pos};
@@ -24,8 +23,8 @@ pub fn fill(input: i32, buffer: &mut [u8]) -> Reading
     reading
 }
 
-// Opens a file for reading, `-` being standard input; where that fails it is said, unless the file may be absent and
-// is.
+// Opens a file for reading, `-` being standard input. Where that fails it is said, but for a file that may be absent
+// and is.
 pub fn open(name: &[u8], may_be_absent: bool) -> i32
     ensures { λ r. ⌜ (isStandard (now (name .entry)) ≡ true → r ≡ pos 0) ⌝ }
 {
@@ -42,13 +41,6 @@ pub fn open(name: &[u8], may_be_absent: bool) -> i32
     file
 }
 
-// Closes what `open` has opened; standard input stays as it is.
-pub fn close(file: i32) {
-    if file != STDIN_FILENO {
-        libc::close(file);
-    }
-}
-
 // Reads a file into a buffer, at most as much as it holds; one that cannot be read, also midway, has length 0.
 pub fn read_file(name: &[u8], may_be_absent: bool, buffer: &mut [u8]) -> usize
     ensures { λ r. ⌜ Counts r (now (buffer .exit)) ⌝ }
@@ -61,7 +53,9 @@ pub fn read_file(name: &[u8], may_be_absent: bool, buffer: &mut [u8]) -> usize
     if reading::failed(reading) {
         say_failed(name);
     }
-    close(file);
+    if !asking::is_standard(name) {
+        libc::close(file);
+    }
     reading::there(reading)
 }
 

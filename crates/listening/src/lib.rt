@@ -51,7 +51,6 @@ fn listen_to(argument: usize, short: bool) {
         return;
     }
     hear_file(file, &name[..length], short);
-    files::close(file);
 }
 
 // Hears a file to its end, and writes the summary. A read that fails is said, and is not taken for the end: then no

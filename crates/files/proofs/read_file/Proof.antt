@@ -18,6 +18,9 @@ failed-requires c κs = search needs
 say-failed-requires : tie.Need-say-failed-requires
 say-failed-requires c κs = search needs
 
+is-standard-requires : tie.Need-is-standard-requires
+is-standard-requires c κs = search needs
+
 close-requires : tie.Need-close-requires
 close-requires c κs = search needs
 
@@ -28,7 +31,7 @@ same-length : tie.Need-same-length
 same-length c = search needs
 
 returns-2 : tie.Need-returns-2
-returns-2 c = rw (c .there .ensures) (c .before .before .before .before .before .before .fill .ensures)
+returns-2 c = rw (c .there .ensures) (c .before .before .before .before .before .before .before .fill .ensures)
 
 pub read-file-spec : {M : Type 1} → statement M
 read-file-spec =
@@ -39,6 +42,7 @@ read-file-spec =
     fill-requires
     failed-requires
     say-failed-requires
+    is-standard-requires
     close-requires
     there-requires
     same-length
