@@ -193,11 +193,10 @@ fn run(name: &'static str, arguments: &[&'static str], recording: Vec<u8>) -> St
 fn runs() -> Vec<Stored> {
     vec![
         run("listen", &[], clean(&clean_groups())),
-        run("listen_roof", &[], roof()),
+        run("listen_roof", &["-x"], roof()),
         run("listen_empty", &[], Vec::new()),
         run("listen_summary", &["-s"], roof()),
         run("listen_long", &[], long()),
-        run("listen_x", &["-x"], clean(&clean_groups()[..10])),
     ]
 }
 

@@ -89,9 +89,9 @@ fn verdicts() -> Vec<Stored> {
     ]
 }
 
-/// Exercises past the first, whose submissions pass for no other: the longest submission for the last exercise of the
-/// longest sheet; the same with a group more; the same with a key more on the sheet; one for the third exercise with a bit
-/// turned in its last group; and one for an exercise that is named with a leading zero.
+/// Exercises past the first, whose submissions pass for no other. For an exercise of the longest sheet that is named with
+/// a leading zero, the longest submission; for the last exercise of that sheet, one with a group more; the longest
+/// submission with a key more on the sheet; and one for the third exercise of three with a bit turned in its last group.
 fn exercises() -> Vec<Stored> {
     let keys = keys(257);
     let first = |count: usize| sheet_of(&keys[..count]);
@@ -99,13 +99,12 @@ fn exercises() -> Vec<Stored> {
     let full = long(255, SUBMISSION_LIMIT);
     let over = long(255, SUBMISSION_LIMIT + GROUP_BYTES);
     let damaged = input(2, &turned(&long(2, SUBMISSION_LIMIT)[1..], 4_093, 1));
-    let eighth = bytes(&passing(&keys[8]));
+    let eighth = cut(&keys[8], SUBMISSION_LIMIT);
     vec![
-        mark_input("mark_full", Some(&first(256)), &full, "exercise 255 answer 0 place 0"),
+        mark_files("mark_zeros", &first(256), "08", &eighth, "exercise 8 answer 0 place 0"),
         mark_input("mark_over", Some(&first(256)), &over, "exercise 255 answer 3 place 0"),
         mark_input("mark_long_sheet", Some(&first(257)), &full, "exercise 255 answer 1 place 0"),
         mark_input("mark_third", Some(&first(3)), &damaged, "exercise 2 answer 4 place 4093"),
-        mark_files("mark_zeros", &first(9), "08", &eighth, "exercise 8 answer 0 place 0"),
     ]
 }
 
@@ -114,7 +113,6 @@ fn encodings() -> Vec<Stored> {
     let two = sheet(&[&text_key(), &plain_key()]);
     let third_not_good = sheet(&[&text_key(), &plain_key(), &text_wanted_but_zero]);
     vec![
-        encode_input("encode_nothing", &two, &[], 260),
         encode_files("encode_second", &two, "01", 52),
         encode_input("encode_refused", &third_not_good, &[2], 0),
     ]
