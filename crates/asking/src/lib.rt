@@ -1,5 +1,7 @@
 // How a program is asked, and how much of an input was read: its arguments by what they say, and the answer of a call
 // that reads by a step. There is no io here.
+#![tactic(auto)]
+
 ghost use Rattle.std.specs.Prelude.{◌≡◌};
 ghost use Rattle.asking.specs.Words.{is_standard, is_summary, listen_of};
 

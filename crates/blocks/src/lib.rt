@@ -1,5 +1,7 @@
 // Blocks of 26 bits: 16 bits of word, then 10 of check, first bit sent highest. Writes, reads and judges them.
 // Refuses, with number 12, what is over 26 bits.
+#![tactic(auto)]
+
 ghost use Rattle.std.specs.Prelude.{◌≡◌, ◌*◌, ◌%◌};
 ghost use Rattle.blocks.specs.Divide.{remainder};
 ghost use Rattle.blocks.specs.Block.{offset_of, check_of, write_of, read_of, judge_of, limit};

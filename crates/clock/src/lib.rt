@@ -1,6 +1,8 @@
 // The clock that a 4A group carries: read from its words, written as its words, and turned into the local date and
 // time. Refused, with number 10: to write what is out of range, and the date where a day is out of range or no clock
 // is held.
+#![tactic(auto)]
+
 ghost use Rattle.std.specs.Prelude.{◌≡◌, ◌+◌, ◌-◌, ◌^◌, ◌≤◌, ◌<◌, cond, []};
 ghost use Rattle.clock.specs.Range.{InDays, InRange, in_range, last_pty};
 ghost use Rattle.clock.specs.Words.{clock_in, read_of, number_of_held, values_of_held, clock_values};

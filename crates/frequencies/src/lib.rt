@@ -1,5 +1,6 @@
 // AF codes and their frequencies, and the list of alternative frequencies that the words of 0A build up.
 // Refused, as answer 11: the frequency of a code that has none, and the code of a frequency that none has.
+#![tactic(auto)]
 
 ghost use Rattle.std.specs.Prelude.{◌≡◌, cond, ◌≤◌, take};
 ghost use Rattle.frequencies.specs.Frequency.{refused, khz_of, no_frequency, frequency_of};

@@ -1,6 +1,8 @@
 // The key sheet: records of 80 bytes, one for each exercise. A key is handed out by value beside an answer, and fields
 // are read only from such a key: nothing is compared with a sheet that did not load.
 // Refused: a sheet that is no 1 to 256 records, an exercise that it lacks (1), and a key that is not good (2).
+#![tactic(auto)]
+
 ghost use Rattle.std.specs.Prelude.{◌≡◌, cond, not, ◌+◌, ◌*◌, ◌≤◌, length, get_or};
 ghost use Rattle.keys.specs.Sheet.{record_size, no_key, key_at};
 ghost use Rattle.keys.specs.Fields.{pair_of, pi_of, pty_of, tp_of, wanted_of, name_pair_of, text_pair_of};

@@ -1,5 +1,7 @@
 // Letters: texts, numbers and characters into a buffer that is lent.
 // Refused, with number 8 (`tell`): a buffer that is too short; it is then as it was.
+#![tactic(auto)]
+
 ghost use Rattle.std.specs.Prelude.{◌≡◌, [], ◌∷◌};
 ghost use Rattle.letters.specs.Letters.{Put, decimal_of, letters_of, hex_four, last_two, character_text};
 ghost use Rattle.letters.specs.Told.{Tells, written_of};

@@ -1,0 +1,36 @@
+-- `blocks::leftover` meets its promise. Before row i the sum is what the word's bits above bit 15 - i leave; the
+-- code's table is compared with the division once, where the loop begins.
+use Prim.Native.Nat.{ℕ, ◌≤◌, ◌-◌, ◌*◌, ◌/◌, ◌^◌}
+use mathlib.Core.Path.{◌≡◌, refl, ap, ◌∙◌}
+use mathlib.Core.List.{List}
+use lib.ListN.{get_or}
+use lib.Bits.{bit_xor}
+use mathlib.Core.Logic.{⊎_elim}
+use native.Mathlib.Nat.{div-one}
+use borrow.Author.Rules.{rules}
+use native.Mathlib.Omega.{arith}
+use Rattle.blocks.specs.Divide.{over_bits, reduced, remainder}
+use Rattle.blocks.proofs.Rows.{rows_of, upper, rows_unset, rows-set}
+use Rattle.blocks.proofs.leftover.Goals as goal
+
+pub loop-i-init : goal.loop-i-init
+unfolding rows_of remainder over_bits reduced
+loop-i-init c = (refl, search rules, let z : c.args.word / 2 ^ 16 ≡ 0 = omega arith in rw z)
+
+pub loop-i-preserved : goal.loop-i-preserved
+loop-i-preserved c = (
+  search rules,
+  search rules,
+  ⊎_elim
+      (λ w. w.1 ∙ ap (λ (rows : List ℕ). bit_xor c.loop-i.sum
+      (get_or rows c.loop-i.i 0)) c.loop-i.invariant.0
+      ∙ rows-set c.args.word c.loop-i.i c.loop-i.sum
+      (omega arith) w.0.taken c.loop-i.invariant.2)
+      (λ w. w.1 ∙ rows_unset c.args.word c.loop-i.i
+      c.loop-i.sum (omega arith) (omega (arith, w.0.left)) c.loop-i.invariant.2)
+      c.if-word-i-eq1.branch,
+)
+
+pub returns : goal.returns
+returns c = let e : 16 - c.loop-i.i ≡ 0 = omega arith in
+    rw (e, div-one c.args.word) at c.loop-i.invariant.2

@@ -1,0 +1,16 @@
+-- `letters::room::put_bytes` meets its promise: before turn i the first i bytes are pasted in.
+use Prim.Native.Nat.{◌≤◌, ◌-◌}
+use mathlib.Core.Path.{◌≡◌, ap, ◌∙◌}
+use native.Mathlib.Omega.{arith}
+use native.Mathlib.Numerals.{add-one}
+use lib.ListN.{length}
+use lib.Seq.{paste, paste-zero, paste-suc, length-paste, take-length}
+use Rattle.letters.specs.Letters.{written}
+use borrow.Author.Rules.{rules}
+use Rattle.letters.proofs.room.put_bytes.Given as goal
+
+abbrev pub invariant-loop-i : goal.invariant-loop-i
+invariant-loop-i l = (l.i ≤ length l.bytes) × (l.out ≡ paste l.initial.out l.at l.bytes l.i)
+
+abbrev pub decreases-loop-i : goal.decreases-loop-i
+decreases-loop-i l = length l.bytes - l.i

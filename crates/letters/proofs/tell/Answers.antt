@@ -1,0 +1,15 @@
+-- `letters::tell` meets its promise: by whether there is room.
+use native.Mathlib.Omega.{arith}
+use Rattle.letters.proofs.Handing.{tells_short, tells_written}
+use borrow.Author.Rules.{rules}
+use Rattle.letters.proofs.tell.Goals as goal
+
+pub returns-then-out-text : goal.returns-then-out-text
+returns-then-out-text c =
+    tells_short c.args.text.now c.args.out.now (omega arith)
+
+pub returns : goal.returns
+returns c =
+    tells_written c.args.text.now
+    c.args.out.now (omega arith)
+    c.put_bytes.ensures
