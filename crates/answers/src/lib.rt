@@ -30,7 +30,7 @@ pub const ERROR_ROOM: usize = 28;
 const LINE_END: u8 = 10;
 
 // An exercise, and the number and the place of its answer.
-#[derive(Drop)]
+#[derive(Clone, Copy)]
 pub struct MarkAnswer {
     pub exercise: u8,
     pub number: u8,

@@ -3,7 +3,7 @@ ghost use Rattle.std.specs.Prelude.{◌≡◌, ◌-◌, ◌<◌};
 ghost use Rattle.asking.specs.Exercise.{digit_zero, is_digit, named_of};
 
 // The exercise that is named, or none.
-#[derive(Drop)]
+#[derive(Clone, Copy)]
 pub enum ExerciseNamed {
     Exercise(u8),
     NoExercise,

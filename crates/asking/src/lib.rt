@@ -9,7 +9,7 @@ pub mod exercise;
 pub mod reading;
 
 // What `listen` is asked: all that is in the file that an argument names, 0 for standard input, or the summary alone.
-#[derive(Drop)]
+#[derive(Clone, Copy)]
 pub enum ListenAsked {
     All(usize),
     Summary(usize),

@@ -4,7 +4,7 @@ ghost use Rattle.std.specs.Prelude.{◌≡◌};
 ghost use Rattle.asking.specs.Reading.{called_of, after_of, there_of, goes_on_of, failed_of};
 
 // So many bytes are there and there may be more; the input has ended; or a call failed.
-#[derive(Drop)]
+#[derive(Clone, Copy)]
 pub enum Reading {
     GoOn(usize),
     Ended(usize),

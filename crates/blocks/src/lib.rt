@@ -9,7 +9,7 @@ ghost use Rattle.blocks.specs.Answers.{found_number, found_values, judged_number
 ghost use Rattle.blocks.specs.Answers.{length_number, read_values, judge_values};
 
 // The kinds of block, in the order of a group; C and C' are the two third ones.
-#[derive(Drop)]
+#[derive(Clone, Copy)]
 pub enum Kind {
     A,
     B,
@@ -19,7 +19,7 @@ pub enum Kind {
 }
 
 // What reading 26 bits finds: the word and its kind, or none; or that there were more than 26 bits.
-#[derive(Drop)]
+#[derive(Clone, Copy)]
 pub enum Found {
     Block(u16, Kind),
     Nothing,
@@ -27,7 +27,7 @@ pub enum Found {
 }
 
 // What 26 bits are where a kind is expected: good with their word, or bad; or more than 26 bits.
-#[derive(Drop)]
+#[derive(Clone, Copy)]
 pub enum Judged {
     Good(u16),
     Bad,

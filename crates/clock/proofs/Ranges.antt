@@ -1,7 +1,7 @@
 -- The tests of a clock's ranges agree with the rule: true exactly if it holds.
 use Prim.Native.Nat.{ℕ, ◌≤◌}
 use mathlib.Core.Path.{◌≡◌, refl}
-use mathlib.Core.Bool.{Bool, true, false, ◌&&◌, and_true, and-eq-true_iff}
+use mathlib.Core.Bool.{Bool, true, false, ◌&&◌, and-true, and-eq-true_iff}
 use lib.Dec.{leb}
 use borrow.Author.Tests.{le-leb, leb-true}
 use Rattle.clock.specs.declared.Clock.{Clock}
@@ -77,4 +77,4 @@ range_by_day clock hour minute half =
       le-leb clock.minute last_minute minute,
       le-leb clock.half last_half half,
     )
-    (rw (and_true, and_true, and_true))
+    (rw (and-true, and-true, and-true))

@@ -6,7 +6,7 @@ ghost use Rattle.clock.specs.Calendar.{date_of, weekday_of};
 use crate::LocalDay;
 use crate::range::FIRST_DAY;
 
-#[derive(Drop)]
+#[derive(Clone, Copy)]
 pub(crate) struct CalendarDate {
     pub(crate) year: u16,
     pub(crate) month: u8,

@@ -18,14 +18,14 @@ use calendar::CalendarDate;
 
 // The day number changes at UTC midnight, not at local midnight: two types, and only `local_time` leads from the one
 // to the other.
-#[derive(Drop)]
+#[derive(Clone, Copy)]
 pub struct UtcDay(pub u32);
 
-#[derive(Drop)]
+#[derive(Clone, Copy)]
 pub struct LocalDay(pub u32);
 
 // A moment in UTC, and the local offset in half hours with its sign.
-#[derive(Drop)]
+#[derive(Clone, Copy)]
 pub struct Clock {
     pub day: UtcDay,
     pub hour: u8,
@@ -34,20 +34,20 @@ pub struct Clock {
     pub half: u8,
 }
 
-#[derive(Drop)]
+#[derive(Clone, Copy)]
 pub enum Held {
     At(Clock),
     Nothing,
 }
 
-#[derive(Drop)]
+#[derive(Clone, Copy)]
 pub enum Written {
     Words(u16, u16, u16, u16),
     OutOfRange,
 }
 
 // A local date and time; Monday is weekday 1.
-#[derive(Drop)]
+#[derive(Clone, Copy)]
 pub struct DateTime {
     pub year: u16,
     pub month: u8,
@@ -57,14 +57,14 @@ pub struct DateTime {
     pub minute: u8,
 }
 
-#[derive(Drop)]
+#[derive(Clone, Copy)]
 pub enum Local {
     Date(DateTime),
     OutOfRange,
 }
 
 // A local day and the minutes since its midnight.
-#[derive(Drop)]
+#[derive(Clone, Copy)]
 struct LocalTime {
     day: LocalDay,
     minutes: u32,

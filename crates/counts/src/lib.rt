@@ -9,7 +9,7 @@ use receiver::Answer;
 // The largest count.
 const MOST: u64 = 18_446_744_073_709_551_615;
 
-#[derive(Drop)]
+#[derive(Clone, Copy)]
 pub struct Counts {
     pub groups: u64,
     pub bad: u64,

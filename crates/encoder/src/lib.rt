@@ -34,7 +34,7 @@ const NAME_ADDRESSES: u8 = 4;
 const GROUP_SIZE: usize = 13;
 
 // The answers 0, with the number of bytes written, 1, 2 and 8.
-#[derive(Drop)]
+#[derive(Clone, Copy)]
 pub enum Encoded {
     Written(usize),
     NoKey,

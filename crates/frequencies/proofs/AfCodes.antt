@@ -1,6 +1,6 @@
 -- What each AF code means and what a word means, in the numbers of the rules.
 use Prim.Native.Nat.{ℕ, ◌+◌, ◌-◌, ◌*◌, ◌/◌, ◌%◌, ◌≤◌, ◌<◌}
-use mathlib.Core.Bool.{or-true, and_false}
+use mathlib.Core.Bool.{or-true, and-false}
 use mathlib.Core.Path.{◌≡◌, refl}
 use native.Mathlib.Omega.{arith}
 use borrow.Author.Tests.{le-leb, lt-leb, lt-ltb, le-ltb}
@@ -32,7 +32,7 @@ module _ (c : ℕ) where
   -- 250 to 255, or any number above: no change
   pub high_code : 250 ≤ c → af_code c ≡ NoChange
   unfolding af_code
-  high_code lo = simp (lt-leb c last_count (omega arith), and_false, lt-ltb last_code c (omega arith), or-true)
+  high_code lo = simp (lt-leb c last_count (omega arith), and-false, lt-ltb last_code c (omega arith), or-true)
 
 -- 0: no change
 pub zero-code : af_code 0 ≡ NoChange

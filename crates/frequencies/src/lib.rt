@@ -29,21 +29,21 @@ const LAST_COUNT: u8 = 249;
 const SLOTS: usize = 25;
 
 // The frequency of a code, in kHz.
-#[derive(Drop)]
+#[derive(Clone, Copy)]
 pub enum FrequencyAnswer {
     Khz(u32),
     NoFrequency,
 }
 
 // The code of a frequency.
-#[derive(Drop)]
+#[derive(Clone, Copy)]
 pub enum CodeAnswer {
     Code(u8),
     NoCode,
 }
 
 // What a code tells a list.
-#[derive(Drop)]
+#[derive(Clone, Copy)]
 pub enum Meaning {
     // The list is emptied, and so many are expected.
     Count(u8),
@@ -53,14 +53,14 @@ pub enum Meaning {
 }
 
 // What the two codes of a word tell a list, one after the other.
-#[derive(Drop)]
+#[derive(Clone, Copy)]
 pub struct WordMeaning {
     pub first: Meaning,
     pub second: Meaning,
 }
 
 // The frequencies held, in order of arrival, with 0 in every slot that is not held, and how many are expected.
-#[derive(Drop)]
+#[derive(Clone, Copy)]
 pub struct AfList {
     pub khz: [u32; SLOTS],
     pub held: u8,

@@ -10,7 +10,7 @@ use crate::Group;
 use blocks::{Judged, Kind};
 
 // Whether a group was put into a buffer.
-#[derive(Drop)]
+#[derive(Clone, Copy)]
 pub enum Put {
     Done,
     TooShort,

@@ -7,7 +7,7 @@ ghost use Rattle.groups.specs.Content.{content_of, carried_of, first_of, second_
 use crate::Group;
 
 // What words 1 and 2 say: PI, type, version, TP, PTY and the five low bits.
-#[derive(Drop)]
+#[derive(Clone, Copy)]
 pub struct Header {
     pub pi: u16,
     pub number: u8,
@@ -18,7 +18,7 @@ pub struct Header {
 }
 
 // Traffic announcement, music or speech, decoder identification.
-#[derive(Drop)]
+#[derive(Clone, Copy)]
 pub struct Switches {
     pub ta: bool,
     pub ms: bool,
@@ -26,7 +26,7 @@ pub struct Switches {
 }
 
 // What a group carries by its type. A pair is two characters and `af` two codes, the first in the high byte.
-#[derive(Drop)]
+#[derive(Clone, Copy)]
 pub enum Content {
     Name0A {
         switches: Switches,
@@ -55,7 +55,7 @@ pub enum Content {
 }
 
 // The switches of a group, or that it carries none.
-#[derive(Drop)]
+#[derive(Clone, Copy)]
 pub enum Carried {
     Carries(Switches),
     CarriesNone,

@@ -14,7 +14,7 @@ use blocks::{Judged, Kind};
 const PLACES: usize = 4;
 
 // Four words and which of them were good. Made only by `empty`, `with_block` and `all_good`.
-#[derive(Drop)]
+#[derive(Clone, Copy)]
 pub struct Group {
     pub words: [u16; 4],
     pub good: [bool; 4],

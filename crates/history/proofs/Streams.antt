@@ -4,7 +4,7 @@
 use Prim.Native.Nat.{ℕ, zero, suc, ◌+◌, ◌*◌, ◌-◌, ◌/◌, ◌%◌, ◌<◌, ◌≤◌}
 use mathlib.Core.Path.{◌≡◌, refl, sym, ap, subst, ◌∙◌}
 use mathlib.Core.List.{List, []}
-use mathlib.Core.Bool.{Bool, true, false, cond, ◌&&◌, and_false, and-eq-true_iff}
+use mathlib.Core.Bool.{Bool, true, false, cond, ◌&&◌, and-false, and-eq-true_iff}
 use mathlib.Core.Logic.{⊎_elim}
 use native.Mathlib.Nat.{eq-or-lt_of_le}
 use native.Mathlib.Numerals.{add-one}
@@ -157,7 +157,7 @@ module _ (f : ℕ → ℕ) (bits : Bits f) (s n : ℕ) (valid : ValidBlocks f s 
           let none : bads_from (judged_in kind (fed k)) (m - 50) 50 ≡ 0 =
           none_bad (judged_in kind (fed k)) (λ i. sent_word f (s + i)) (m - 50) 50
           (λ i p q. judged-good k i (omega arith) (omega arith) (λ _. omega arith)) in
-          rw none (and_false (eqb ((m - 2) % 50) 0))
+          rw none (and-false (eqb ((m - 2) % 50) 0))
 
       inside : 0 < (m - 2) % 50
           → (eqb ((m - 2) % 50) 0 && loses_of (bads_from (judged_in kind (fed k)) (m - 50) 50)) ≡ false
@@ -239,7 +239,7 @@ module _ (f : ℕ → ℕ) (bits : Bits f) (s n : ℕ) (valid : ValidBlocks f s 
   no_group : (k : ℕ) → k < 104 → ends_group s k ≡ false
   unfolding ends_group
   no_group k h =
-      rw (whole_false k (omega arith), and_false (eqb ((s + k / 26) % 4) 0)) (and_false (eqb (k % 26) 0))
+      rw (whole_false k (omega arith), and-false (eqb ((s + k / 26) % 4) 0)) (and-false (eqb (k % 26) 0))
 
   -- what has come after k bits
   phase-at : ℕ → Phase

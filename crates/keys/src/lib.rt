@@ -65,13 +65,13 @@ const NAME_ADDRESSES: u8 = 4;
 const ALL_ADDRESSES: u8 = 20;
 
 // A key: the bytes of one record.
-#[derive(Drop)]
+#[derive(Clone, Copy)]
 pub struct Key {
     pub bytes: [u8; RECORD],
 }
 
 // The answers 0, 1 and 2 to the question for a key.
-#[derive(Drop)]
+#[derive(Clone, Copy)]
 pub enum KeyAnswer {
     Good,
     NoKey,
@@ -79,7 +79,7 @@ pub enum KeyAnswer {
 }
 
 // An answer, and the key where it is Good; beside any other a key of zeros.
-#[derive(Drop)]
+#[derive(Clone, Copy)]
 pub struct Asked {
     pub answer: KeyAnswer,
     pub key: Key,

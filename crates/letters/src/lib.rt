@@ -16,7 +16,7 @@ const WORD_ROOM: usize = 8;
 const SHOWN_ROOM: usize = 4;
 
 // Whether a text was written into a buffer: so many characters, or refusal 8.
-#[derive(Drop)]
+#[derive(Clone, Copy)]
 pub enum Told {
     Written(usize),
     TooShort,

@@ -3,7 +3,7 @@
 use Prim.Native.Nat.{ℕ, zero, suc, ◌+◌, ◌*◌, ◌/◌, ◌%◌, ◌<◌, ◌≤◌}
 use mathlib.Core.Path.{◌≡◌, refl, sym, ap, subst, ◌∙◌}
 use mathlib.Core.List.{List}
-use mathlib.Core.Bool.{Bool, true, false, not, cond, beq, true≢false, and-eq-true_iff, and_false}
+use mathlib.Core.Bool.{Bool, true, false, not, cond, beq, true≢false, and-eq-true_iff, and-false}
 use mathlib.Core.Bool.{or-true}
 use mathlib.Core.Logic.{◌⊎◌, inl, inr, ⊎_elim}
 use mathlib.Mathlib.Data.Bool.Basic.{or-eq-false-eq-eq-false-and-eq-false as or-none}
@@ -109,7 +109,7 @@ module _ (k s : List ℕ) (g : ℕ) where
             r.pty,
       )
       (⊎_elim (λ v. rw v) (λ v. rw (eq-eqb (word_at s g 2) (pi_of k) (r.third v))
-      (and_false (eqb (version_of (word_at s g 1)) 1))) (version_is (word_at s g 1)))
+      (and-false (eqb (version_of (word_at s g 1)) 1))) (version_is (word_at s g 1)))
 
 -- ---- what a group carries
 

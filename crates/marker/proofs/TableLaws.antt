@@ -7,7 +7,7 @@ use mathlib.Core.Bool.{Bool, true, false, not, true≢false}
 use mathlib.Core.Logic.{⊎_elim}
 use native.Mathlib.Omega.{arith}
 use lib.ListN.{get_or}
-use borrow.Author.Tests.{not_true, not-false}
+use borrow.Author.Tests.{not-true, not-false}
 use Rattle.bits.proofs.Order.{lt-or-le}
 use Rattle.keys.specs.Sheet.{HasExercise, no_key, key_at}
 use Rattle.keys.specs.Good.{GoodKey, key_good}
@@ -178,7 +178,7 @@ module _ (sheet : List ℕ) (n : ℕ) (s : List ℕ) where
             groups-right e,
             address_wanted k a
                 (omega (arith, spot.below)),
-            λ c. yes_no _ (some-came s (groups_in s) a c.0 c.1 c.2) (not_true _ spot.here),
+            λ c. yes_no _ (some-came s (groups_in s) a c.0 c.1 c.2) (not-true _ spot.here),
             λ b l w. came-some s (groups_in s) b (not-false _ (spot.before b (omega arith) l)),
           )
       told-address Nowhere e f =
@@ -270,7 +270,7 @@ module _ (sheet : List ℕ) (n : ℕ) (s : List ℕ) where
   told_mark BadKey (h, f) =
       rw (
         exercise_has sheet n h,
-        not_true (key_good k)
+        not-true (key_good k)
             (fails (GoodKey k) (not (key_good k)) (λ e. good_key k (not-false _ e)) f),
       )
   told_mark BadLength (h, f) =

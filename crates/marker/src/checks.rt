@@ -7,7 +7,7 @@ use crate::{GROUP, PLACES, reader};
 use blocks::Judged;
 
 // The first place of which a test says yes.
-#[derive(Drop)]
+#[derive(Clone, Copy)]
 pub enum Found {
     At(usize),
     Nowhere,

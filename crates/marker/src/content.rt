@@ -12,14 +12,14 @@ use groups::fields::Content;
 use keys::Key;
 
 // What reading a header yields: what the group carries, or that PI, TP, PTY or the third word is wrong.
-#[derive(Drop)]
+#[derive(Clone, Copy)]
 enum Heading {
     Carries(Content),
     Wrong,
 }
 
 // A group that is right, with what it carries, or the answer that it gets.
-#[derive(Drop)]
+#[derive(Clone, Copy)]
 enum Step {
     Right(Content),
     Stop(Verdict),

@@ -23,7 +23,7 @@ const PLACES: usize = 4;
 const LIMIT: usize = 13312;
 
 // The answers 0 to 7, those with a place hold it.
-#[derive(Drop)]
+#[derive(Clone, Copy)]
 pub enum Verdict {
     Passed,
     NoKey,

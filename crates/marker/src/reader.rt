@@ -6,7 +6,7 @@ ghost use Rattle.groups.specs.Written.{block_in, word_in};
 // A word stands above the ten bits of its check.
 const CHECKS: u32 = 1024;
 
-#[derive(Drop)]
+#[derive(Clone, Copy)]
 pub struct Reader<'a> {
     pub bytes: &'a [u8],
     pub at: usize,

@@ -15,7 +15,7 @@ pub const TEXT: usize = 4;
 const MASK: usize = 32;
 
 // The flag of the first 2A.
-#[derive(Drop)]
+#[derive(Clone, Copy)]
 pub enum Held {
     NoFlag,
     Flag(bool),

@@ -15,7 +15,7 @@ use groups::Group;
 mod feeding;
 
 // Hunting; or locked, with the place of the block that is coming and the kind that a third one must have.
-#[derive(Drop)]
+#[derive(Clone, Copy)]
 pub enum Place {
     Hunting,
     First,
@@ -27,7 +27,7 @@ pub enum Place {
 }
 
 // What a bit is answered.
-#[derive(Drop)]
+#[derive(Clone, Copy)]
 pub enum Answer {
     Nothing,
     Locked,
@@ -38,14 +38,14 @@ pub enum Answer {
 }
 
 // Whether two blocks lock: the kind and word of the older, and the word of the newer.
-#[derive(Drop)]
+#[derive(Clone, Copy)]
 pub enum Lock {
     At(Kind, u16, u16),
     No,
 }
 
 // A run of blocks: how many have come, how many of them were bad, and whether lock is lost with it.
-#[derive(Drop)]
+#[derive(Clone, Copy)]
 pub struct Run {
     pub run: u8,
     pub bad: u8,
@@ -55,7 +55,7 @@ pub struct Run {
 // The receiver's state. `window` holds the last bits as a number, `count` says how many: hunting, of the last 52;
 // locked, of the block that is coming. `hand` is the group in hand, where `held` says that there is one. `run` and `bad`
 // count the blocks of the run.
-#[derive(Drop)]
+#[derive(Clone, Copy)]
 pub struct Receiver {
     pub window: u64,
     pub count: u8,
@@ -67,7 +67,7 @@ pub struct Receiver {
 }
 
 // The next state with the answer; the group is the empty one where none is answered.
-#[derive(Drop)]
+#[derive(Clone, Copy)]
 pub struct Step {
     pub next: Receiver,
     pub answer: Answer,
@@ -76,7 +76,7 @@ pub struct Step {
 
 // Where feeding bytes stopped: the next state, the answer with its group, and the place of the next bit, its byte and
 // which bit of that byte, the highest being 0.
-#[derive(Drop)]
+#[derive(Clone, Copy)]
 pub struct Advanced {
     pub next: Receiver,
     pub answer: Answer,
@@ -86,13 +86,13 @@ pub struct Advanced {
 }
 
 // A place in bytes, and the last bits with their count, where the bits up to it were taken in.
-#[derive(Drop)]
+#[derive(Clone, Copy)]
 pub struct Spot {
     pub byte: usize,
     pub bit: u8,
 }
 
-#[derive(Drop)]
+#[derive(Clone, Copy)]
 pub struct Filled {
     pub window: u64,
     pub count: u8,

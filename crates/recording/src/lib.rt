@@ -14,7 +14,7 @@ use station::Record;
 use telling::{GROUP_ROOM, LINE_ROOM, STATION_ROOM};
 
 // What is kept from bit to bit: the receiver, the station record, and the counts.
-#[derive(Drop)]
+#[derive(Clone, Copy)]
 pub struct Ear {
     pub receiver: Receiver,
     pub station: Record,

@@ -12,7 +12,7 @@ use groups::Group;
 use receiver::{Place, Receiver};
 
 // Whether the state was saved: a buffer that is too short is refused.
-#[derive(Drop)]
+#[derive(Clone, Copy)]
 pub enum Saved {
     Done,
     TooShort,

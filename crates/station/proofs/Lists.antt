@@ -2,7 +2,7 @@
 -- And a list that is said by its places.
 use Prim.Native.Nat.{ℕ, zero, suc, ◌<◌}
 use mathlib.Core.Path.{◌≡◌, refl, sym, ap, ◌∙◌}
-use mathlib.Core.Bool.{Bool, true, false, cond, ◌&&◌, ◌||◌, and_true, and_assoc}
+use mathlib.Core.Bool.{Bool, true, false, cond, ◌&&◌, ◌||◌, and-true, and_assoc}
 use mathlib.Core.List.{List, [], ◌∷◌, ◌++◌}
 use native.Mathlib.Omega.{arith}
 use lib.ListN.{length, get_or, replicate}
@@ -40,7 +40,7 @@ module _ (test : Group → Bool) (g : Group) where
 
   pub each_more : (gs : List Group) → each test (gs ++ g ∷ []) ≡ (each test gs && test g)
   unfolding each
-  each_more [] = and_true (test g)
+  each_more [] = and-true (test g)
   each_more (h ∷ gs) = rw (each_more gs) (sym (and_assoc (test h) (each test gs) (test g)))
 
   pub some_more : (gs : List Group) → some test (gs ++ g ∷ []) ≡ cond (test g) true (some test gs)

@@ -24,28 +24,28 @@ const TEXT_SIZE: usize = 64;
 const TEXT_PAIRS: usize = 32;
 
 // The PI held, or none.
-#[derive(Drop)]
+#[derive(Clone, Copy)]
 pub enum HeldPi {
     Pi(u16),
     NoPi,
 }
 
 // The text flag held, or none.
-#[derive(Drop)]
+#[derive(Clone, Copy)]
 pub enum HeldFlag {
     Flag(bool),
     NoFlag,
 }
 
 // The characters of the name, and for each pair of them whether it was seen.
-#[derive(Drop)]
+#[derive(Clone, Copy)]
 pub struct Name {
     pub characters: [u8; NAME_SIZE],
     pub seen: [bool; NAME_PAIRS],
 }
 
 // The characters of the text, for each pair of them whether it was seen, and the flag of the latest text group.
-#[derive(Drop)]
+#[derive(Clone, Copy)]
 pub struct Text {
     pub characters: [u8; TEXT_SIZE],
     pub seen: [bool; TEXT_PAIRS],
@@ -53,7 +53,7 @@ pub struct Text {
 }
 
 // All that is held of a station.
-#[derive(Drop)]
+#[derive(Clone, Copy)]
 pub struct Record {
     pub pi: HeldPi,
     pub pty: u8,

@@ -5,7 +5,7 @@ ghost use Rattle.telling.specs.Pieces.{piece_text, line_text};
 
 // A piece: a word by the number that its letters spell, a number in decimal, the last two digits of one, a word of a
 // group in hexadecimal, a character, or nothing.
-#[derive(Drop)]
+#[derive(Clone, Copy)]
 pub(crate) enum Piece {
     Word(u64),
     Number(u64),

@@ -12,6 +12,7 @@ use native.Mathlib.Omega.{arith}
 use Rattle.blocks.specs.Divide.{over_bits, reduced, remainder}
 use Rattle.blocks.proofs.Rows.{rows_of, upper, rows_unset, rows-set}
 use Rattle.blocks.proofs.leftover.Goals as goal
+use Rattle.blocks.proofs.leftover.Goals.{then-word-i-eq1, else-word-i-eq1}
 
 pub loop-i-init : goal.loop-i-init
 unfolding rows_of remainder over_bits reduced
@@ -21,14 +22,15 @@ pub loop-i-preserved : goal.loop-i-preserved
 loop-i-preserved c = (
   search rules,
   search rules,
-  ⊎_elim
-      (λ w. w.1 ∙ ap (λ (rows : List ℕ). bit_xor c.loop-i.sum
-      (get_or rows c.loop-i.i 0)) c.loop-i.invariant.0
-      ∙ rows-set c.args.word c.loop-i.i c.loop-i.sum
-      (omega arith) w.0.taken c.loop-i.invariant.2)
-      (λ w. w.1 ∙ rows_unset c.args.word c.loop-i.i
-      c.loop-i.sum (omega arith) (omega (arith, w.0.left)) c.loop-i.invariant.2)
-      c.if-word-i-eq1.branch,
+  elim c.if-word-i-eq1.branch [
+    then-word-i-eq1 w ↦
+        w.sum-is ∙ ap (λ (rows : List ℕ). bit_xor c.loop-i.sum (get_or rows c.loop-i.i 0)) c.loop-i.invariant.0
+            ∙ rows-set c.args.word c.loop-i.i c.loop-i.sum (omega arith) w.if-word-i-eq1.true c.loop-i.invariant.2
+  | else-word-i-eq1 w ↦
+        w.sum-is
+            ∙ rows_unset c.args.word c.loop-i.i c.loop-i.sum (omega arith) (omega (arith, w.if-word-i-eq1.false))
+                c.loop-i.invariant.2
+  ],
 )
 
 pub returns : goal.returns

@@ -21,15 +21,15 @@ beyond list i past = sym (either (leb list.held i) (get_or list.khz i 0) (get_or
 
 pub returns-then-i-ge-SLOTS : goal.returns-then-i-ge-SLOTS
 returns-then-i-ge-SLOTS c =
-    let full : length c.args.t1.khz ≡ 25 = search rules in
-    beyond c.args.t1 c.args.i (omega arith)
+    let full : length c.args.list.khz ≡ 25 = search rules in
+    beyond c.args.list c.args.i (omega arith)
 
 pub returns-then-list-i : goal.returns-then-list-i
 returns-then-list-i c =
     let args = c.args in
-    simp (le-leb args.t1.held args.i (omega arith))
+    simp (le-leb args.list.held args.i (omega arith))
 
 pub returns : goal.returns
 returns c =
     let args = c.args in
-    simp (lt-leb args.t1.held args.i (omega arith))
+    simp (lt-leb args.list.held args.i (omega arith))

@@ -18,14 +18,14 @@ pub returns-then-stored-i : goal.returns-then-stored-i
 returns-then-stored-i c =
     let args = c.args in
     let i = c.loop-i.i in
-    sym (is_in-at args.khz args.t1 i args.held (search rules) (search rules) (search rules))
+    sym (is_in-at args.khz args.stored i args.held (search rules) (search rules) (search rules))
 
 pub loop-i-preserved : goal.loop-i-preserved
 loop-i-preserved c =
     let args = c.args in
     let loop = c.loop-i in (
       search rules,
-      rw add-one (is_in_next args.khz args.t1 loop.i (search rules) loop.invariant.1 (search rules)),
+      rw add-one (is_in_next args.khz args.stored loop.i (search rules) loop.invariant.1 (search rules)),
     )
 
 pub returns : goal.returns

@@ -1,6 +1,6 @@
 -- `station::updated` meets its promise: by whether the group counts.
 use mathlib.Core.Path.{sym, ap, ◌∙◌}
-use borrow.Author.Tests.{not_true, not-false}
+use borrow.Author.Tests.{not-true, not-false}
 use Rattle.station.specs.declared.Record.{Record}
 use Rattle.station.specs.Update.{held_for, filled_of}
 use Rattle.station.proofs.Holding.{updated_counted, updated_kept}
@@ -14,7 +14,7 @@ counts-requires c κs = search rules
 returns : tie.Need-returns
 returns c =
     let args = c.before.before.args in
-    let not-counted = sym c.before.counts.ensures ∙ not_true c.before.counts.result c.if1.true in
+    let not-counted = sym c.before.counts.ensures ∙ not-true c.before.counts.result c.if1.true in
     sym (updated_kept args.station args.group not-counted)
 
 word-requires : tie.Need-word-requires

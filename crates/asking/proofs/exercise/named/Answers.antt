@@ -4,7 +4,7 @@ use Prim.Native.Nat.{◌-◌, ◌≤◌}
 use mathlib.Core.Path.{◌≡◌, sym, ◌∙◌}
 use native.Mathlib.Omega.{arith}
 use borrow.Author.Rules.{rules}
-use borrow.Author.Tests.{not_true, not-false}
+use borrow.Author.Tests.{not-true, not-false}
 use lib.ListN.{length, drop}
 use Rattle.asking.specs.Exercise.{last_exercise, named_from, named_of}
 use Rattle.asking.proofs.Digits.{first_named, none_named, other_named, over-named, next_named, last_named}
@@ -20,7 +20,7 @@ pub returns-then-not-is_digit : goal.returns-then-not-is_digit
 returns-then-not-is_digit c =
     let turn = c.loop-i in
     sym (turn.invariant.2 ∙ other_named c.args.text.now turn.i turn.value
-    (omega arith) (not_true _ (rw c.is_digit.ensures at c.if-not-is_digit.true-raw)))
+    (omega arith) (rw c.is_digit.ensures at c.if-not-is_digit.true))
 
 pub returns-then-value-gt-LAST : goal.returns-then-value-gt-LAST
 returns-then-value-gt-LAST c =
@@ -34,7 +34,7 @@ loop-i-preserved c =
       omega arith,
       rw c.worth.ensures.0 (turn.invariant.2 ∙ next_named c.args.text.now turn.i turn.value
           (omega arith)
-          (not-false _ (rw c.is_digit.ensures at c.if-not-is_digit.false-raw))),
+          (rw c.is_digit.ensures at c.if-not-is_digit.false)),
     )
 
 pub returns : goal.returns

@@ -14,3 +14,7 @@ returns-in-GoOn c =
 pub returns-in-Ended : goal.returns-in-Ended
 unfolding after_of
 returns-in-Ended c = rw c.in-Ended.is
+
+pub returns-in-Failed : goal.returns-in-Failed
+unfolding after_of
+returns-in-Failed c = search rules

@@ -1,0 +1,20 @@
+-- `clock::read` meets its contract: the test says which answer is given.
+use mathlib.Core.Path.{sym, ap, ◌∙◌}
+use Rattle.clock.specs.declared.Held.TheVariants.{At, Nothing}
+use Rattle.clock.specs.Range.{in_range}
+use Rattle.clock.proofs.Numbers.{read_said, read_at, read_nothing}
+use borrow.Author.Rules.{rules}
+use Rattle.clock.proofs.read.Goals as goal
+
+pub returns-then-in_range : goal.returns-then-in_range
+returns-then-in_range c =
+    read_said _ _ _ _
+    (ap At c.clock_in-clock.ensures
+    ∙ read_at _ _ _
+    (ap in_range (sym c.clock_in-clock.ensures) ∙ sym c.in_range.ensures ∙ c.if-in_range.true))
+
+pub returns : goal.returns
+returns c =
+    read_said _ _ _ Nothing
+    (read_nothing _ _ _
+    (ap in_range (sym c.clock_in-clock.ensures) ∙ sym c.in_range.ensures ∙ c.if-in_range.false))

@@ -1,0 +1,14 @@
+-- `keys::all_good` meets its contract. The loop's invariant: the flag is `all_good` of the bytes passed.
+-- Assumes nothing.
+use Prim.Native.Nat.{◌≤◌, ◌-◌}
+use mathlib.Core.Path.{◌≡◌}
+use borrow.Author.Rules.{rules}
+use Rattle.keys.specs.Good.{all_good}
+use Rattle.keys.proofs.GoodLaws.{all_good_more, all_good_end}
+use Rattle.keys.proofs.all_good.Given as goal
+
+abbrev pub invariant-loop-i : goal.invariant-loop-i
+invariant-loop-i l = (l.i ≤ l.count) × (l.good ≡ all_good l.shown l.bytes l.at l.i)
+
+abbrev pub decreases-loop-i : goal.decreases-loop-i
+decreases-loop-i l = l.count - l.i

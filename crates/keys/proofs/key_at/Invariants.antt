@@ -1,0 +1,22 @@
+-- `keys::key_at` meets its contract. The loop's invariant: the array is the first i bytes of the record, then zeros.
+-- Assumes nothing.
+use Prim.Native.Nat.{ℕ, ◌*◌, ◌-◌, ◌≤◌}
+use mathlib.Core.Path.{◌≡◌, refl}
+use borrow.Author.Rules.{rules}
+use native.Mathlib.Omega.{arith}
+use lib.ListN.{replicate}
+use mathlib.Core.List.{List}
+use Rattle.keys.specs.Sheet.{record_size, key_at}
+use Rattle.keys.proofs.SheetLaws.{copied, copy_more, copy_end}
+use Rattle.keys.proofs.key_at.Given as goal
+
+-- the array where the loop begins
+abbrev pub blank : List ℕ
+blank = replicate record_size 0
+
+abbrev pub invariant-loop-i : goal.invariant-loop-i
+invariant-loop-i l =
+    (l.i ≤ record_size) × (l.bytes ≡ copied l.sheet blank l.from l.i)
+
+abbrev pub decreases-loop-i : goal.decreases-loop-i
+decreases-loop-i l = record_size - l.i
