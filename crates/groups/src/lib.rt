@@ -1,5 +1,7 @@
 // Groups: four words of 16 bits and a mask that says which were good. Makes them block by block, and reads their
 // header and fields.
+#![tactic(auto)]
+
 ghost use Rattle.std.specs.Prelude.{◌≡◌};
 ghost use Rattle.groups.specs.Header.{third_kind, expected_of};
 ghost use Rattle.groups.specs.Group.{empty_of, with_block_of, all_good_of, word_of, good_of, is_all_good_of, counts_of};

@@ -1,0 +1,22 @@
+-- `groups::bytes::put_at` meets its promise: by whether there is room.
+use mathlib.Core.Path.{◌∙◌, ap}
+use native.Mathlib.Omega.{arith}
+use lib.ListN.{length}
+use lib.Seq.{length-paste}
+use Rattle.groups.proofs.RoomLaws.{length-group, put_short, put_done}
+use borrow.Author.Rules.{rules}
+use Rattle.groups.proofs.bytes.put_at.Goals as goal
+
+pub returns-then-out-lt-SIZE : goal.returns-then-out-lt-SIZE
+returns-then-out-lt-SIZE c = put_short c.args.words c.args.out.now
+    c.args.at (omega arith)
+
+pub returns-then-out-at : goal.returns-then-out-at
+returns-then-out-at c = put_short c.args.words c.args.out.now
+    c.args.at (omega arith)
+
+pub returns : goal.returns
+returns c = put_done c.args.words
+    c.args.out.now _ _
+    c.args.at (omega arith)
+    c.bytes_of.ensures c.put_bytes.ensures

@@ -1,0 +1,38 @@
+-- `groups::bytes::put_bytes` meets its promise: before turn i the first i bytes are pasted in.
+use Prim.Native.Nat.{ℕ, ◌≤◌, ◌<◌, ◌-◌, ◌+◌}
+use mathlib.Core.Path.{◌≡◌, ap, ◌∙◌, sym}
+use mathlib.Core.List.{List}
+use native.Mathlib.Omega.{arith}
+use native.Mathlib.Numerals.{add-one}
+use borrow.Author.Rules.{rules}
+use lib.ListN.{length}
+use lib.Seq.{paste, paste-zero, paste-suc, length-paste}
+use Rattle.groups.proofs.bytes.put_bytes.Goals as goal
+
+pub loop-i-init : goal.loop-i-init
+loop-i-init c = (search rules, paste-zero c.args.out.now c.args.at c.args.bytes)
+
+pub bounds-out-at : goal.bounds-out-at
+bounds-out-at c =
+    let same : length c.loop-i.out ≡ length c.args.out.now =
+    ap length c.loop-i.invariant.1 ∙ length-paste c.args.out.now c.args.at c.args.bytes
+    c.loop-i.i (omega arith) (omega arith) in
+    omega arith
+
+pub loop-i-preserved : goal.loop-i-preserved
+loop-i-preserved c = (
+      search rules,
+      rw (c.loop-i.invariant.1, add-one c.loop-i.i)
+          (paste-suc c.args.out.now c.args.at c.args.bytes c.loop-i.i 0 (omega arith)
+          (omega arith)),
+    )
+
+pub shape_of-out : goal.shape_of-out
+shape_of-out c =
+    let same : length c.loop-i.out ≡ length c.args.out.now =
+    ap length c.loop-i.invariant.1 ∙ length-paste c.args.out.now c.args.at c.args.bytes
+    c.loop-i.i (omega arith) (omega arith) in
+    same
+
+pub returns : goal.returns
+returns c = let e : c.loop-i.i ≡ 13 = omega arith in rw e at c.loop-i.invariant.1

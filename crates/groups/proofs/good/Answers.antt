@@ -1,0 +1,14 @@
+-- `groups::good` meets its promise: by whether there is such a place.
+use native.Mathlib.Omega.{arith}
+use borrow.Author.Tests.{le-leb, lt-leb}
+use Rattle.groups.specs.Group.{places, good_of}
+use borrow.Author.Rules.{rules}
+use Rattle.groups.proofs.good.Goals as goal
+
+pub returns-then-place-ge-PLACES : goal.returns-then-place-ge-PLACES
+unfolding good_of
+returns-then-place-ge-PLACES c = rw (le-leb places c.args.place (omega arith))
+
+pub returns : goal.returns
+unfolding good_of
+returns c = rw (lt-leb places c.args.place (omega arith))
