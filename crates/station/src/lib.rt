@@ -1,5 +1,7 @@
 // The station record: what the groups taken in so far say of the one station that is heard. Only groups with all four
 // blocks good change it; it refuses nothing but a local date and time, as `clock` does.
+#![tactic(auto)]
+
 ghost use Rattle.std.specs.Prelude.{◌≡◌};
 ghost use Rattle.station.specs.Record.{no_name, no_text, fresh_with, fresh_of};
 ghost use Rattle.station.specs.Update.{holds_pi, held_for, filled_of, updated_of};

@@ -1,0 +1,6 @@
+-- `station::fresh_with` meets its promise: part by part.
+use borrow.Author.Rules.{rules}
+use Rattle.station.proofs.fresh_with.Goals as goal
+
+pub returns : goal.returns
+returns c = rw (c.empty.ensures, c.no_text.ensures, c.no_name.ensures)
