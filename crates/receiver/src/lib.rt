@@ -1,6 +1,8 @@
 // The receiver: takes one bit and hands back its state with one answer. Hunts for two blocks that follow each other,
 // locks on them, hands out groups, and gives the lock up where too many blocks are bad.
 // Refuses, with number 9, a bit that is neither 0 nor 1.
+#![tactic(auto)]
+
 ghost use Rattle.std.specs.Prelude.{◌≡◌, cond, ◌<◌};
 ghost use Rattle.receiver.specs.Rules.{follower_of, joined_of, lock_of, is_bad_of, say_of};
 ghost use Rattle.receiver.specs.Answers.{answer_number, bit_number};

@@ -1,0 +1,21 @@
+-- `receiver::feeding::fill` meets its promise. Feeding on from where the loop is gives the whole answer.
+use Rattle.receiver.proofs.Quiet.{inside_bit}
+use Rattle.receiver.specs.Feeding.{byte_bits, advance_of}
+use Rattle.receiver.specs.Machine.{shift_of, is_hunting_of, inside_of}
+use Rattle.receiver.specs.declared.Receiver.{Receiver}
+use Rattle.blocks.specs.Damage.{block_bits}
+use Prim.Native.Nat.{◌+◌, ◌*◌, ◌-◌, ◌<◌, ◌≤◌}
+use mathlib.Core.Bool.{false}
+use mathlib.Core.Path.{◌≡◌, refl, ap, ◌∙◌}
+use borrow.Author.Rules.{rules}
+use native.Mathlib.Omega.{arith}
+use Rattle.receiver.proofs.feeding.fill.Given as goal
+
+abbrev pub invariant-loop-many : goal.invariant-loop-many
+invariant-loop-many l =
+    ((r : Receiver) → is_hunting_of r.place ≡ false
+    → advance_of (inside_of r l.window l.count) l.bytes l.byte l.bit ≡ advance_of (inside_of r l.last l.many) l.bytes l.at l.inside)
+    × (l.inside < byte_bits) × (byte_bits * l.byte + l.bit ≤ byte_bits * l.at + l.inside)
+
+abbrev pub decreases-loop-many : goal.decreases-loop-many
+decreases-loop-many l = block_bits - l.many

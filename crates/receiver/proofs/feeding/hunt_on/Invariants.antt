@@ -1,0 +1,21 @@
+-- `receiver::feeding::hunt_on` meets its promise. Feeding on from where the loop is gives the whole answer.
+use Rattle.receiver.proofs.Quiet.{shift-limit, hunt_bit}
+use Rattle.receiver.specs.Strides.{is_lock_of}
+use Rattle.receiver.specs.Feeding.{byte_bits, advance_of}
+use Rattle.receiver.specs.Machine.{shift_of, hunting_of}
+use Rattle.bits.proofs.ByteBits.{bit_at_lt}
+use lib.ListN.{length}
+use Prim.Native.Nat.{◌+◌, ◌*◌, ◌-◌, ◌<◌, ◌≤◌}
+use mathlib.Core.Path.{◌≡◌, refl, sym, ap, ◌∙◌}
+use borrow.Author.Rules.{rules}
+use native.Mathlib.Omega.{arith}
+use Rattle.receiver.proofs.feeding.hunt_on.Given as goal
+
+abbrev pub invariant-loop-at : goal.invariant-loop-at
+invariant-loop-at l =
+    (advance_of (hunting_of l.window l.count) l.bytes l.byte l.bit ≡ advance_of (hunting_of l.last l.many) l.bytes l.at l.inside)
+    × (l.inside < byte_bits) × (byte_bits * l.byte + l.bit ≤ byte_bits * l.at + l.inside)
+
+abbrev pub decreases-loop-at : goal.decreases-loop-at
+decreases-loop-at l =
+    byte_bits * length l.bytes - (byte_bits * l.at + l.inside)

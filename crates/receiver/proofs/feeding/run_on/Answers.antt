@@ -1,0 +1,29 @@
+-- `receiver::feeding::run_on` meets its promise: by whether it hunts.
+use Rattle.receiver.proofs.Quiet.{hunting_bare, taken-hunting, taken_inside}
+use mathlib.Core.Path.{sym, ◌∙◌}
+use native.Mathlib.Omega.{arith}
+use borrow.Author.Rules.{rules}
+use Rattle.receiver.proofs.feeding.run_on.Goals as goal
+
+-- src/feeding.rt:177:1
+pub returns-then-is_hunting : goal.returns-then-is_hunting
+returns-then-is_hunting c = let a = c.args in
+    let h = sym c.is_hunting.ensures ∙ c.if-is_hunting.true in
+    let t = c.hunt_on.result in
+    record {
+      whole = hunting_bare a.receiver a.bytes.now a.byte a.bit (omega arith) (omega arith) h
+          ∙ c.hunt_on.ensures.whole ∙ rw (taken-hunting a.receiver t.window t.count h);
+      moved = c.hunt_on.ensures.moved;
+      within = c.hunt_on.ensures.within;
+    }
+
+-- src/feeding.rt:177:1
+pub returns-else-is_hunting : goal.returns-else-is_hunting
+returns-else-is_hunting c = let a = c.args in
+    let h = sym c.is_hunting.ensures ∙ c.if-is_hunting.false in
+    let t = c.fill.result in
+    record {
+      whole = c.fill.ensures.whole a.receiver h ∙ rw (taken_inside a.receiver t.window t.count h);
+      moved = c.fill.ensures.moved;
+      within = c.fill.ensures.within;
+    }

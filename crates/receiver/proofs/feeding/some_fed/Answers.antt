@@ -1,0 +1,23 @@
+-- `receiver::feeding::some_fed` meets its promise: by whether a bit is left after those that were taken in.
+use borrow.Author.Rules.{rules}
+use mathlib.Core.Path.{◌∙◌}
+use native.Mathlib.Omega.{arith}
+use Rattle.receiver.proofs.feeding.some_fed.Goals as goal
+
+-- src/feeding.rt:185:1
+pub returns-then-at-bytes : goal.returns-then-at-bytes
+returns-then-at-bytes c = let t = c.fed.ensures in let k = c.run_on-filled.ensures in
+    record {
+      whole = k.whole ∙ rw (← c.taken_in-next.ensures) t.whole;
+      moved = omega (arith, k.moved, t.moved);
+      within = t.within;
+    }
+
+-- src/feeding.rt:185:1
+pub returns-else-at-bytes : goal.returns-else-at-bytes
+returns-else-at-bytes c = let k = c.run_on-filled.ensures in
+    record {
+      whole = k.whole ∙ rw (c.resting.ensures, c.taken_in-next.ensures);
+      moved = rw c.resting.ensures (omega (arith, k.within));
+      within = rw c.resting.ensures k.within;
+    }

@@ -1,0 +1,6 @@
+-- `receiver::follower` meets its promise: kind by kind.
+use borrow.Author.Rules.{rules}
+use Rattle.receiver.proofs.follower.Goals as goal
+
+pub returns-in-B : goal.returns-in-B
+returns-in-B c = rw (c.in-B.is, c.third_kind.ensures)
