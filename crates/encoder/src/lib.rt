@@ -1,5 +1,7 @@
 // The encoder: writes a key as the groups that bring its name and, if wanted, its text, 13 bytes each.
 // Refused: no such exercise (1), a key that is not good (2), a buffer too short (8). The buffer is then as it was.
+#![tactic(auto)]
+
 ghost use Rattle.std.specs.Prelude.{◌≡◌, cond, ◌<◌, ◌≤◌, length};
 ghost use Rattle.keys.specs.Wanted.{all_addresses};
 ghost use Rattle.encoder.specs.Words.{text_type, tp_bit, word2_of, name_words, text_words, words_at};
