@@ -1,5 +1,7 @@
 // What the program `listen` writes: each line as characters in a buffer that is lent.
 // Refused, with number 8: a buffer that is too short; it is then as it was.
+#![tactic(auto)]
+
 ghost use Rattle.std.specs.Prelude.{◌≡◌, length};
 ghost use Rattle.telling.specs.Pieces.{line_text};
 ghost use Rattle.telling.specs.Lines.{lock_line, lost_line, group_text};

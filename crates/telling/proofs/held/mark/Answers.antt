@@ -1,0 +1,8 @@
+-- `telling::held::mark` meets its promise: by whether the pair was seen.
+use Rattle.telling.proofs.held.mark.Goals as goal
+
+pub returns-then-seen : goal.returns-then-seen
+returns-then-seen c = rw c.if-seen.true
+
+pub returns : goal.returns
+returns c = rw c.if-seen.false

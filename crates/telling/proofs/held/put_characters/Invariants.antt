@@ -1,0 +1,19 @@
+-- `telling::held::put_characters` meets its promise: before turn i the first i characters are written.
+use Prim.Native.Nat.{◌+◌, ◌*◌, ◌-◌, ◌≤◌}
+use mathlib.Core.Path.{◌≡◌, refl}
+use native.Mathlib.Omega.{arith}
+use lib.ListN.{length, get_or}
+use Rattle.letters.specs.Letters.{character_text}
+use Rattle.letters.proofs.Buffers.{Turn, turn_first, turn_next, turn_last}
+use Rattle.letters.proofs.Puts.{put_wrote}
+use Rattle.letters.proofs.Sizes.{character_most}
+use borrow.Author.Rules.{rules}
+use Rattle.telling.proofs.held.put_characters.Given as goal
+
+abbrev pub invariant-loop-i : goal.invariant-loop-i
+invariant-loop-i l =
+    (l.i ≤ length l.characters) × (l.next ≤ l.at + 4 * l.i) × (length l.out ≡ length l.initial.out)
+    × Turn character_text l.characters l.initial.out l.at l.i l.out l.next
+
+abbrev pub decreases-loop-i : goal.decreases-loop-i
+decreases-loop-i l = length l.characters - l.i

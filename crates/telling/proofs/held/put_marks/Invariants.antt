@@ -1,0 +1,18 @@
+-- `telling::held::put_marks` meets its promise: before turn i the first i marks are written.
+use Prim.Native.Nat.{◌+◌, ◌-◌, ◌≤◌}
+use mathlib.Core.Path.{◌≡◌, refl}
+use mathlib.Core.Bool.{false}
+use native.Mathlib.Omega.{arith}
+use lib.ListN.{length}
+use Rattle.telling.specs.Station.{mark_text}
+use Rattle.letters.proofs.Buffers.{Turn, turn_first, turn_next, turn_last}
+use Rattle.letters.proofs.Puts.{put_wrote}
+use borrow.Author.Rules.{rules}
+use Rattle.telling.proofs.held.put_marks.Given as goal
+
+abbrev pub invariant-loop-i : goal.invariant-loop-i
+invariant-loop-i l =
+    (l.i ≤ length l.seen) × (l.next ≤ l.at + l.i) × (length l.out ≡ length l.initial.out) × Turn mark_text l.seen l.initial.out l.at l.i l.out l.next
+
+abbrev pub decreases-loop-i : goal.decreases-loop-i
+decreases-loop-i l = length l.seen - l.i

@@ -1,0 +1,21 @@
+-- `telling::held::put_shown` meets its promise: a line, characters, a word and marks, one behind the other.
+use native.Mathlib.Omega.{arith}
+use Rattle.letters.proofs.Buffers.{wrote_two}
+use borrow.Author.Rules.{rules}
+use Rattle.telling.proofs.held.put_shown.Goals as goal
+
+pub returns : goal.returns
+returns c =
+    let word = rw c.one_word.ensures at
+    c.put_line-three.ensures.0 in
+    let two = wrote_two _ c.put_line-one.result (omega arith) c.put_characters-two.ensures.0 word in
+    let shown = wrote_two _ c.put_line-one.result (omega arith) two c.put_marks.ensures.0 in (
+      wrote_two c.args.out.now c.args.at (omega arith) c.put_line-one.ensures.0 shown,
+      omega (
+        arith,
+        c.put_line-one.ensures.1,
+        c.put_characters-two.ensures.1,
+        c.put_line-three.ensures.1,
+        c.put_marks.ensures.1,
+      ),
+    )

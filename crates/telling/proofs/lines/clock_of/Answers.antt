@@ -1,0 +1,12 @@
+-- `telling::lines::clock_of` meets its promise: words 2, 3 and 4 are read.
+use borrow.Author.Rules.{rules}
+use Rattle.telling.proofs.lines.clock_of.Goals as goal
+
+pub returns : goal.returns
+returns c =
+    rw (
+      c.read.ensures.0,
+      c.word.ensures,
+      c.word-2.ensures,
+      c.word-3.ensures,
+    )

@@ -1,0 +1,6 @@
+-- `telling::lines::name` meets its promise: its characters are what `first` and `second` promise.
+use borrow.Author.Rules.{rules}
+use Rattle.telling.proofs.lines.name.Goals as goal
+
+pub returns : goal.returns
+returns c = rw (c.first.ensures, c.second.ensures)

@@ -1,0 +1,6 @@
+-- `telling::lines::text` meets its promise: its characters are what `first` and `second` promise.
+use borrow.Author.Rules.{rules}
+use Rattle.telling.proofs.lines.text.Goals as goal
+
+pub returns : goal.returns
+returns c = rw (c.bit.ensures, c.first.ensures, c.second.ensures)

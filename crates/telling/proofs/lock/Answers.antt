@@ -1,0 +1,6 @@
+-- `telling::lock` meets its promise: the word and the number, as a line.
+use borrow.Author.Rules.{rules}
+use Rattle.telling.proofs.lock.Goals as goal
+
+pub returns : goal.returns
+returns c = rw c.with_bit.ensures at c.line_told.ensures

@@ -1,0 +1,17 @@
+-- `telling::pieces::put_line` meets its promise: before turn i the texts of the first i pieces are written.
+use Prim.Native.Nat.{◌+◌, ◌*◌, ◌-◌, ◌≤◌}
+use mathlib.Core.Path.{◌≡◌, refl}
+use native.Mathlib.Omega.{arith}
+use lib.ListN.{length}
+use Rattle.telling.specs.Pieces.{piece_text}
+use Rattle.telling.specs.declared.pieces.Piece.TheVariants.{Word}
+use Rattle.letters.proofs.Buffers.{Turn, turn_first, turn_next, turn_last}
+use borrow.Author.Rules.{rules}
+use Rattle.telling.proofs.pieces.put_line.Given as goal
+
+abbrev pub invariant-loop-i : goal.invariant-loop-i
+invariant-loop-i l =
+    (l.i ≤ 16) × (l.next ≤ l.at + 20 * l.i) × (length l.out ≡ length l.initial.out) × Turn piece_text l.line l.initial.out l.at l.i l.out l.next
+
+abbrev pub decreases-loop-i : goal.decreases-loop-i
+decreases-loop-i l = 16 - l.i

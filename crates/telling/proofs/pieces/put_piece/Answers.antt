@@ -1,0 +1,44 @@
+-- `telling::pieces::put_piece` meets its promise: by what the piece is.
+use native.Mathlib.Omega.{arith}
+use Rattle.letters.proofs.Buffers.{wrote_none}
+use Rattle.letters.proofs.Puts.{put_wrote}
+use Rattle.letters.proofs.Sizes.{letters_most, decimal_most, hex_most, character_most}
+use borrow.Author.Rules.{rules}
+use Rattle.telling.proofs.pieces.put_piece.Goals as goal
+
+pub returns-in-Word : goal.returns-in-Word
+returns-in-Word c =
+    let most = letters_most c.in-Word.letters (omega arith) in
+    let wrote = put_wrote (omega arith) c.put_word.ensures in
+    rw c.in-Word.is (wrote, omega arith)
+
+pub returns-in-Number : goal.returns-in-Number
+returns-in-Number c =
+    let most = decimal_most c.in-Number.number (omega arith) in
+    let wrote = put_wrote (omega arith) c.put_number.ensures in
+    rw c.in-Number.is (wrote, omega arith)
+
+pub returns-in-Two : goal.returns-in-Two
+returns-in-Two c =
+    let wrote = put_wrote (omega arith) c.put_last_two.ensures in
+    rw c.in-Two.is (wrote, omega arith)
+
+pub returns-in-Hex : goal.returns-in-Hex
+returns-in-Hex c =
+    let most = hex_most c.in-Hex.word in
+    let wrote = put_wrote (omega arith) c.put_hex.ensures in
+    rw c.in-Hex.is (wrote, omega arith)
+
+pub returns-in-Character : goal.returns-in-Character
+returns-in-Character c =
+    let most = character_most c.in-Character.character in
+    let wrote = put_wrote (omega arith) c.put_character.ensures in
+    rw c.in-Character.is (wrote, omega arith)
+
+pub returns-in-Silent : goal.returns-in-Silent
+returns-in-Silent c =
+    rw c.in-Silent.is (
+      wrote_none c.args.out.now
+          c.args.at,
+      omega arith,
+    )
