@@ -1,5 +1,7 @@
 // Marks a submission against the key of an exercise: answers 0 to 7 with their places. An answer is a function of
 // sheet, exercise and submission alone. Nothing passes without a good key and at least one whole group.
+#![tactic(auto)]
+
 ghost use Rattle.std.specs.Prelude.{◌≡◌};
 ghost use Rattle.marker.specs.Verdict.{number_of, place_of};
 ghost use Rattle.marker.specs.Tests.{length_wrong};

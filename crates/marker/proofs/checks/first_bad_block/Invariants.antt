@@ -1,0 +1,18 @@
+-- `marker::checks::first_bad_block` meets its promise. The loop's invariant: the first bad block of all is the first
+-- from here on.
+use Prim.Native.Nat.{◌-◌, ◌≤◌}
+use mathlib.Core.Path.{◌≡◌, refl}
+use Rattle.marker.specs.First.{first}
+use Rattle.marker.specs.Submission.{blocks_in}
+use Rattle.marker.specs.Tests.{block_wrong}
+use Rattle.marker.specs.Mark.{first_bad_block}
+use Rattle.marker.proofs.FirstLaws.{first_begin, first_stop, first_go, first_end}
+use borrow.Author.Rules.{rules}
+use Rattle.marker.proofs.checks.first_bad_block.Given as goal
+
+abbrev pub invariant-loop-block : goal.invariant-loop-block
+invariant-loop-block l = (l.blocks ≡ blocks_in l.submission) × (l.block ≤ l.blocks) ×
+    (first (block_wrong l.submission) 0 l.blocks ≡ first (block_wrong l.submission) l.block (l.blocks - l.block))
+
+abbrev pub decreases-loop-block : goal.decreases-loop-block
+decreases-loop-block l = l.blocks - l.block
