@@ -1,4 +1,6 @@
 // The counts of a recording: groups, bad groups, locks and losses, one update for each answer of the receiver.
+#![tactic(auto)]
+
 ghost use Rattle.std.specs.Prelude.{◌≡◌, cond};
 ghost use Rattle.groups.specs.Group.{is_all_good_of};
 ghost use Rattle.counts.specs.Counts.{no_counts, more_of, with_lock, with_loss, with_group, counted_of};
