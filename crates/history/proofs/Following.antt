@@ -61,6 +61,11 @@ in_hand-more m = told (leb 3 m) refl
 
 -- ---- one bit more, m blocks having come
 
+-- before the first block of a group nothing is filled
+filled-none : (judged : ℕ → Judged) (start : ℕ) → filled_from judged start 0 ≡ empty_of
+unfolding filled_from
+filled-none judged start = refl
+
 module _
     (kind : Kind) (bits : List ℕ) (bit m c : ℕ) (hand : Group) (fits : Fits kind bits m c hand) (zero_one : bit < 2)
   where
@@ -212,7 +217,6 @@ module _
 
     hand-after : place_at kind (m + 1) ≤ m + 1
         → hand_of place hand-with ≡ filled_from judged (m + 1 - place_at kind (m + 1)) (place_at kind (m + 1))
-    unfolding filled_from
     hand-after h = ⊎_elim fourth before (eq-or-lt_of_le {n = place_at kind m} {m = 3} (omega arith))
       where
         fourth : place_at kind m ≡ 3
@@ -220,7 +224,7 @@ module _
         fourth e =
             let first : place_at kind (m + 1) ≡ 0 = omega arith in
             place_hand (place_at kind m) (second_before all-bits m) hand-with (omega arith)
-            ∙ rw (next_place kind m, first)
+            ∙ rw (next_place kind m, first, filled-none judged (m + 1 - 0))
 
         before : place_at kind m < 3
             → hand_of place hand-with ≡ filled_from judged (m + 1 - place_at kind (m + 1)) (place_at kind (m + 1))

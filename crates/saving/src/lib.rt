@@ -1,5 +1,7 @@
 // The receiver's state as bytes in a lent buffer, and back. Refuses, with number 8, a buffer that is too short; any
 // bytes give a state.
+#![tactic(auto)]
+
 ghost use Rattle.std.specs.Prelude.{◌≡◌, cond, ◌+◌, ◌*◌, ◌<◌, ◌≤◌, ltb, length, get_or, drop, ◌++◌};
 ghost use Rattle.bits.specs.Spell.{spell};
 ghost use Rattle.bits.specs.Bytes.{bit_at};

@@ -1,0 +1,17 @@
+-- `saving::number_at` meets its promise. Before byte i the number is what the bytes so far spell.
+use Rattle.saving.proofs.Saves.{spell_next, spell_room}
+use Rattle.receiver.specs.Feeding.{byte_bits}
+use Rattle.bits.specs.Bytes.{bit_at}
+use Rattle.bits.specs.Spell.{spell}
+use Prim.Native.Nat.{◌*◌, ◌-◌, ◌≤◌}
+use mathlib.Core.Path.{◌≡◌, refl, sym, ◌∙◌}
+use borrow.Author.Rules.{rules}
+use native.Mathlib.Omega.{arith}
+use Rattle.saving.proofs.number_at.Given as goal
+
+abbrev pub invariant-loop-i : goal.invariant-loop-i
+invariant-loop-i l = (l.i ≤ l.many)
+    × (l.number ≡ spell (bit_at l.bytes) (byte_bits * l.from) (byte_bits * l.i))
+
+abbrev pub decreases-loop-i : goal.decreases-loop-i
+decreases-loop-i l = l.many - l.i
