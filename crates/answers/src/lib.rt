@@ -1,6 +1,8 @@
 // What the programs `mark` and `encode` write, for the bytes of a sheet and of an input, in a buffer that is lent; and
 // how much of a sheet and an input they need read. There is no io here.
 // Refused, with number 8: a buffer that is too short; it is then as it was.
+#![tactic(auto)]
+
 ghost use Rattle.std.specs.Prelude.{◌≡◌, ◌∷◌, ◌++◌, ◌+◌, ◌-◌, ◌≤◌, length, replicate};
 ghost use Rattle.letters.specs.Letters.{Wrote, decimal_of};
 ghost use Rattle.letters.specs.Told.{TellsWithin};
