@@ -1,0 +1,15 @@
+-- `list_of` is the list that `list_in` says: before turn i it is the list after i words.
+use Rattle.capi.specs.Frequencies.{list_after, list_in}
+use borrow.Author.Rules.{rules}
+use lib.ListN.{length}
+use native.Mathlib.Numerals.{add-one}
+use native.Mathlib.Omega.{arith}
+use Prim.Native.Nat.{◌≤◌, ◌-◌, ◌/◌}
+use mathlib.Core.Path.{◌≡◌, refl, ap, ◌∙◌}
+use Rattle.capi.proofs.af.list_of.Given as goal
+
+abbrev pub invariant-loop-i : goal.invariant-loop-i
+invariant-loop-i l = (l.i ≤ l.words) × (l.list ≡ list_after l.bytes l.i) × (l.words ≡ length l.bytes / 2)
+
+abbrev pub decreases-loop-i : goal.decreases-loop-i
+decreases-loop-i l = l.words - l.i
