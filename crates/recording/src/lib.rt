@@ -1,5 +1,7 @@
 // What is heard of a recording, from answer to answer, and the lines that are told of it, each in a buffer that always
 // has room for it. There is no io here.
+#![tactic(auto)]
+
 ghost use Rattle.std.specs.Prelude.{◌≡◌, ◌≤◌, length};
 ghost use Rattle.letters.specs.Letters.{Wrote};
 ghost use Rattle.telling.specs.Pieces.{line_text};
