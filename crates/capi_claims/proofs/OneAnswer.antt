@@ -26,8 +26,8 @@ times =
       read_clock = λ κs a. (tt, λ r r' e e' p q. equation_settles p q);
       write_clock = λ κs a. (tt, λ r r' e e' p q. equation_settles p q);
       local_date = λ κs a. (tt, λ r r' e e' p q. equation_settles p q);
-      held_code_lem = λ κs a. (tt, λ r r' e e' p q. equation_settles p q);
-      local_code_lem = λ κs a. (tt, λ r r' e e' p q. equation_settles p q);
+      held_code = λ κs a. (tt, λ r r' e e' p q. equation_settles p q);
+      local_code = λ κs a. (tt, λ r r' e e' p q. equation_settles p q);
     }
 
 frequencies : Frequencies
@@ -45,7 +45,7 @@ marking =
     record {
       encode = λ κs a. (tt, λ r r' e e' p q. (equation_settles p.0 q.0, equation_settles p.1 q.1));
       mark = λ κs a. (tt, λ r r' e e' p q. equation_settles p q);
-      mark_place_lem = λ κs a. (tt, λ r r' e e' p q. equation_settles p q);
+      mark_place = λ κs a. (tt, λ r r' e e' p q. equation_settles p q);
     }
 
 hearing : Hearing

@@ -33,12 +33,12 @@ groups =
     record {
       empty = λ κs a. (tt, λ r r' e e' p q. equation_settles p q);
       with_block = λ κs a. (tt, λ r r' e e' p q. equation_settles p q);
-      all_good_lem = λ κs a. (tt, λ r r' e e' p q. equation_settles p q);
+      all_good = λ κs a. (tt, λ r r' e e' p q. equation_settles p q);
       word = λ κs a. (tt, λ r r' e e' p q. equation_settles p q);
       good = λ κs a. (tt, λ r r' e e' p q. equation_settles p q);
       is_all_good = λ κs a. (tt, λ r r' e e' p q. equation_settles p q);
       counts = λ κs a. (tt, λ r r' e e' p q. equation_settles p q);
-      third-kind = λ κs a. (tt, λ r r' e e' p q. equation_settles p q);
+      third_kind = λ κs a. (tt, λ r r' e e' p q. equation_settles p q);
       expected = λ κs a. (tt, λ r r' e e' p q. equation_settles p q);
     }
 
@@ -48,8 +48,8 @@ fields =
       header_of = λ κs a. (tt, λ r r' e e' p q. equation_settles p q);
       header_from = λ κs a. (tt, λ r r' e e' p q. equation_settles p q);
       content_from = λ κs a. (tt, λ r r' e e' p q. equation_settles p q);
-      content_of_lem = λ κs a. (tt, λ r r' e e' p q. equation_settles p q);
-      switches_of_lem = λ κs a. (tt, λ r r' e e' p q. equation_settles p q);
+      content_of = λ κs a. (tt, λ r r' e e' p q. equation_settles p q);
+      switches_of = λ κs a. (tt, λ r r' e e' p q. equation_settles p q);
       first = λ κs a. (tt, λ r r' e e' p q. equation_settles p q);
       second = λ κs a. (tt, λ r r' e e' p q. equation_settles p q);
     }
@@ -57,11 +57,11 @@ fields =
 bytes : Bytes
 bytes =
     record {
-      blocks_of_lem = λ κs a. (tt, λ r r' e e' p q. equation_settles p q);
+      blocks_of = λ κs a. (tt, λ r r' e e' p q. equation_settles p q);
       bytes_of = λ κs a. (tt, λ r r' e e' p q. equation_settles p q);
       put_at = λ κs a. (tt, λ r r' e e' p q. (equation_settles p.0 q.0, equation_settles p.2 q.2));
       block_at = λ κs a. (tt, λ r r' e e' p q. equation_settles p q);
-      word_at_lem = λ κs a. (tt, λ r r' e e' p q. equation_settles p q);
+      word_at = λ κs a. (tt, λ r r' e e' p q. equation_settles p q);
       group_of = λ κs a. (tt, λ r r' e e' p q. equation_settles p q);
     }
 
@@ -116,10 +116,10 @@ held =
       pty = λ κs a. (tt, λ r r' e e' p q. equation_settles p q);
       tp = λ κs a. (tt, λ r r' e e' p q. equation_settles p q);
       name_characters = λ κs a. (tt, λ r r' e e' p q. equation_settles p q);
-      name_seen_lem = λ κs a. (tt, λ r r' e e' p q. equation_settles p q);
+      name_seen = λ κs a. (tt, λ r r' e e' p q. equation_settles p q);
       text_characters = λ κs a. (tt, λ r r' e e' p q. equation_settles p q);
-      text_seen_lem = λ κs a. (tt, λ r r' e e' p q. equation_settles p q);
-      text_flag_lem = λ κs a. (tt, λ r r' e e' p q. equation_settles p.0 q.0);
+      text_seen = λ κs a. (tt, λ r r' e e' p q. equation_settles p q);
+      text_flag = λ κs a. (tt, λ r r' e e' p q. equation_settles p.0 q.0);
       af_list = λ κs a. (tt, λ r r' e e' p q. equation_settles p q);
       held_clock = λ κs a. (tt, λ r r' e e' p q. equation_settles p.0 q.0);
       local_date = λ κs a. (tt, λ r r' e e' p q. equation_settles p.0 q.0);
@@ -128,7 +128,7 @@ held =
 keys : Keys
 keys =
     record {
-      key_of_lem = λ κs a. (tt, λ r r' e e' p q. equation_settles p.0 q.0);
+      key_of = λ κs a. (tt, λ r r' e e' p q. equation_settles p.0 q.0);
       pi = λ κs a. (tt, λ r r' e e' p q. equation_settles p q);
       pty = λ κs a. (tt, λ r r' e e' p q. equation_settles p q);
       tp = λ κs a. (tt, λ r r' e e' p q. equation_settles p q);
@@ -161,7 +161,7 @@ letters =
       written = λ κs a. (tt, λ r r' e e' p q. equation_settles p q);
       put = λ κs a. (tt, λ r r' e e' p q. one-put p q);
       put_byte = λ κs a. (tt, λ r r' e e' p q. one-put p q);
-      put_number_lem = λ κs a. (tt, λ r r' e e' p q. one-put p q);
+      put_number = λ κs a. (tt, λ r r' e e' p q. one-put p q);
       put_word = λ κs a. (tt, λ r r' e e' p q. one-put p q);
       put_hex = λ κs a. (tt, λ r r' e e' p q. one-put p q);
       put_last_two = λ κs a. (tt, λ r r' e e' p q. one-put p q);
@@ -185,9 +185,9 @@ recording =
     record {
       fresh = λ κs a. (tt, λ r r' e e' p q. equation_settles p q);
       heard = λ κs a. (tt, λ r r' e e' p q. equation_settles p q);
-      bits_after_lem = λ κs a. (tt, λ r r' e e' p q. equation_settles p q);
-      group_line_lem = λ κs a. (tt, λ r r' e e' p q. one_wrote p.0 q.0);
-      lock_line_lem = λ κs a. (tt, λ r r' e e' p q. one_wrote p.0 q.0);
+      bits_after = λ κs a. (tt, λ r r' e e' p q. equation_settles p q);
+      group_line = λ κs a. (tt, λ r r' e e' p q. one_wrote p.0 q.0);
+      lock_line = λ κs a. (tt, λ r r' e e' p q. one_wrote p.0 q.0);
       record_lines = λ κs a. (tt, λ r r' e e' p q. one_wrote p.0 q.0);
       count_lines = λ κs a. (tt, λ r r' e e' p q. one_wrote p.0 q.0);
     }
@@ -196,8 +196,8 @@ asking : Asking
 asking =
     record {
       named = λ κs a. (tt, λ r r' e e' p q. equation_settles p q);
-      is_standard_lem = λ κs a. (tt, λ r r' e e' p q. equation_settles p q);
-      is_summary_lem = λ κs a. (tt, λ r r' e e' p q. equation_settles p q);
+      is_standard = λ κs a. (tt, λ r r' e e' p q. equation_settles p q);
+      is_summary = λ κs a. (tt, λ r r' e e' p q. equation_settles p q);
       listen_asked = λ κs a. (tt, λ r r' e e' p q. equation_settles p q);
       after = λ κs a. (tt, λ r r' e e' p q. equation_settles p q);
       there = λ κs a. (tt, λ r r' e e' p q. equation_settles p q);
@@ -211,7 +211,7 @@ answers =
       sheet_buffer = λ κs a. (tt, λ r r' e e' p q. equation_settles p q);
       input_buffer = λ κs a. (tt, λ r r' e e' p q. equation_settles p q);
       marked = λ κs a. (tt, λ r r' e e' p q. equation_settles p q);
-      mark_line_lem = λ κs a. (tt, λ r r' e e' p q. one_within p q);
+      mark_line = λ κs a. (tt, λ r r' e e' p q. one_within p q);
       encode_output = λ κs a. (tt, λ r r' e e' p q. one_within p q);
       encode_error = λ κs a. (tt, λ r r' e e' p q. one_within p q);
       whole_line = λ κs a. (tt, λ r r' e e' p q. one_wrote p.0 q.0);
