@@ -1,0 +1,17 @@
+-- `put_told` copies what is told: before byte i the buffer has the first i bytes of it, and then its own.
+use Rattle.capi_states.specs.Hearing.{told_size, told_of}
+use Rattle.saving.proofs.Saves.{copy_next, copied}
+use borrow.Author.Rules.{rules}
+use lib.ListN.{length, take, drop, length-set}
+use native.Mathlib.Omega.{arith}
+use Prim.Native.Nat.{◌≤◌, ◌-◌}
+use mathlib.Core.List.{◌++◌}
+use mathlib.Core.Path.{◌≡◌, refl, ◌∙◌}
+use Rattle.capi_states.proofs.hearing.put_told.Given as goal
+
+abbrev pub invariant-loop-i : goal.invariant-loop-i
+invariant-loop-i l =
+    (l.i ≤ told_size) × (l.told ≡ take l.i l.bytes ++ drop l.i l.initial.told) × (length l.told ≡ length l.initial.told) × (length l.bytes ≡ told_size)
+
+abbrev pub decreases-loop-i : goal.decreases-loop-i
+decreases-loop-i l = told_size - l.i

@@ -1,0 +1,33 @@
+-- `head` gives the number that `head_of` says, number by number.
+use borrow.Author.Tests.{ne_eqb}
+use mathlib.Core.Path.{◌∙◌}
+use borrow.Author.Rules.{rules}
+use Rattle.capi_states.proofs.stations.head.Goals as goal
+
+pub returns-in-0 : goal.returns-in-0
+returns-in-0 c = c.pi_code.ensures ∙ rw (c.in-0.is, c.pi.ensures.0)
+
+pub returns-in-1 : goal.returns-in-1
+returns-in-1 c = c.pty.ensures ∙ rw c.in-1.is
+
+pub returns-in-2 : goal.returns-in-2
+returns-in-2 c = c.bit.ensures.0 ∙ rw (c.in-2.is, c.tp.ensures)
+
+pub returns-in-3 : goal.returns-in-3
+returns-in-3 c = c.flag_code.ensures ∙ rw (c.in-3.is, c.text_flag.ensures.0)
+
+pub returns-in-4 : goal.returns-in-4
+returns-in-4 c = c.held_code.ensures ∙ rw (c.in-4.is, c.held_clock.ensures.0)
+
+pub returns-in_default : goal.returns-in_default
+returns-in_default c =
+    let n = c.args.n in
+    let w = c.in_default.in_default-own.rest in
+    c.local_code.ensures ∙ rw (
+      ne_eqb n 0 w.0.0.0.0.1,
+      ne_eqb n 1 w.0.0.0.1,
+      ne_eqb n 2 w.0.0.1,
+      ne_eqb n 3 w.0.1,
+      ne_eqb n 4 w.1,
+      c.local_date.ensures.0,
+    )

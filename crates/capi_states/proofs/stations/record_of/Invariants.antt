@@ -1,0 +1,16 @@
+-- `record_of` is the record that `record_in` says: before turn i it is the record after i groups.
+use Rattle.capi_states.specs.Stations.{record_after, record_in}
+use borrow.Author.Rules.{rules}
+use lib.ListN.{length}
+use native.Mathlib.Numerals.{add-one}
+use native.Mathlib.Omega.{arith}
+use Prim.Native.Nat.{◌≤◌, ◌-◌, ◌/◌}
+use mathlib.Core.Path.{◌≡◌, refl, ap, ◌∙◌}
+use Rattle.capi_states.proofs.stations.record_of.Given as goal
+
+abbrev pub invariant-loop-i : goal.invariant-loop-i
+invariant-loop-i l =
+    (l.i ≤ l.groups) × (l.station ≡ record_after l.bytes l.i) × (l.groups ≡ length l.bytes / 9)
+
+abbrev pub decreases-loop-i : goal.decreases-loop-i
+decreases-loop-i l = l.groups - l.i
