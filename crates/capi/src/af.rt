@@ -12,8 +12,7 @@ const REFUSED: u32 = 11;
 const ABOVE_CODE: u32 = 256;
 
 // The frequency of a code, in kHz.
-#[unsafe(no_mangle)]
-pub extern "C" fn bench_frequency(code: u8) -> u32
+pub fn bench_frequency(code: u8) -> u32
     ensures { result ≡ frequency_code (frequency_of code) }
 {
     frequency_code(frequencies::frequency(code))
@@ -29,8 +28,7 @@ fn frequency_code(answer: FrequencyAnswer) -> u32
 }
 
 // The code of a frequency in kHz.
-#[unsafe(no_mangle)]
-pub extern "C" fn bench_code(khz: u32) -> u32
+pub fn bench_code(khz: u32) -> u32
     ensures { result ≡ code_code (code_of khz) }
 {
     code_code(frequencies::code(khz))
@@ -47,8 +45,7 @@ fn code_code(answer: CodeAnswer) -> u32
 
 // Of the list that the words in some bytes give: how many are expected, how many are held, and then the frequencies in
 // kHz, each asked for by its number from 0.
-#[unsafe(no_mangle)]
-pub extern "C" fn bench_af_list(bytes: &[u8], asked: usize) -> u32
+pub fn bench_af_list(bytes: &[u8], asked: usize) -> u32
     ensures { result ≡ list_code (list_in bytes.now) asked }
 {
     list_code(list_of(bytes), asked)

@@ -58,24 +58,21 @@ fn judged_code(judged: Judged) -> u32
 }
 
 // A word as a block of a kind.
-#[unsafe(no_mangle)]
-pub extern "C" fn bench_write_block(word: u16, kind: u8) -> u32
+pub fn bench_write_block(word: u16, kind: u8) -> u32
     ensures { result ≡ write_of word (kind_numbered kind) }
 {
     blocks::write(word, kind_numbered(kind))
 }
 
 // The word and kind of a block.
-#[unsafe(no_mangle)]
-pub extern "C" fn bench_read_block(bits: u32) -> u32
+pub fn bench_read_block(bits: u32) -> u32
     ensures { result ≡ found_code (read_of bits) }
 {
     found_code(blocks::read(bits))
 }
 
 // The word of a block where a kind is expected.
-#[unsafe(no_mangle)]
-pub extern "C" fn bench_judge_block(bits: u32, kind: u8) -> u32
+pub fn bench_judge_block(bits: u32, kind: u8) -> u32
     ensures { result ≡ judged_code (judge_of bits (kind_numbered kind)) }
 {
     judged_code(blocks::judge(bits, kind_numbered(kind)))

@@ -15,8 +15,7 @@ const ABOVE_WORD: u32 = 0x10000;
 const TOO_SHORT: u8 = 8;
 
 // Four words as thirteen bytes into a buffer, from byte `at` on.
-#[unsafe(no_mangle)]
-pub extern "C" fn bench_put_group(
+pub fn bench_put_group(
     word1: u16,
     word2: u16,
     word3: u16,
@@ -40,8 +39,7 @@ fn put_code(put: Put) -> u8
 }
 
 // The word at a place, 0 to 3, of the group that the bytes begin with.
-#[unsafe(no_mangle)]
-pub extern "C" fn bench_read_word(bytes: &[u8], place: usize) -> u32
+pub fn bench_read_word(bytes: &[u8], place: usize) -> u32
     ensures { result ≡ word_code (group_in bytes.now) place }
 {
     word_code(groups::bytes::group_of(bytes), place)
@@ -58,8 +56,7 @@ fn word_code(group: Group, place: usize) -> u32
 }
 
 // The switches of a group, by its word 2.
-#[unsafe(no_mangle)]
-pub extern "C" fn bench_switches(word2: u16) -> u8
+pub fn bench_switches(word2: u16) -> u8
     ensures { result ≡ carried_code (carried_of word2) }
 {
     carried_code(groups::fields::switches_of(groups::all_good([0, word2, 0, 0])))

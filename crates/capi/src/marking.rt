@@ -7,8 +7,7 @@ ghost use Rattle.capi.specs.Marking.{encoded_code};
 use encoder::Encoded;
 
 // The groups of an exercise's key at the front of a buffer.
-#[unsafe(no_mangle)]
-pub extern "C" fn bench_encode(sheet: &[u8], exercise: usize, out: &mut [u8]) -> usize
+pub fn bench_encode(sheet: &[u8], exercise: usize, out: &mut [u8]) -> usize
     ensures { (result ≡ encoded_code (encode_of sheet.now exercise (length out.old)))
         × (out.new ≡ out_of sheet.now exercise out.old) }
 {
@@ -27,16 +26,14 @@ fn encoded_code(encoded: Encoded) -> usize
 }
 
 // The number of the answer for an exercise's submission.
-#[unsafe(no_mangle)]
-pub extern "C" fn bench_mark(sheet: &[u8], exercise: usize, submission: &[u8]) -> u8
+pub fn bench_mark(sheet: &[u8], exercise: usize, submission: &[u8]) -> u8
     ensures { result ≡ mark_number sheet.now exercise submission.now }
 {
     marker::number(marker::mark(sheet, exercise, submission))
 }
 
 // Its place.
-#[unsafe(no_mangle)]
-pub extern "C" fn bench_mark_place(sheet: &[u8], exercise: usize, submission: &[u8]) -> usize
+pub fn bench_mark_place(sheet: &[u8], exercise: usize, submission: &[u8]) -> usize
     ensures { result ≡ mark_place sheet.now exercise submission.now }
 {
     marker::place(marker::mark(sheet, exercise, submission))

@@ -15,16 +15,14 @@ const CLOCK: u64 = 0x200000000000000;
 const DATE: u64 = 0x100000000000000;
 
 // The clock in words 2, 3 and 4 of a 4A.
-#[unsafe(no_mangle)]
-pub extern "C" fn bench_read_clock(word2: u16, word3: u16, word4: u16) -> u64
+pub fn bench_read_clock(word2: u16, word3: u16, word4: u16) -> u64
     ensures { result ≡ held_code (read_of word2 word3 word4) }
 {
     held_code(clock::read(word2, word3, word4))
 }
 
 // The four words of a 4A with this PI, TP, PTY and clock.
-#[unsafe(no_mangle)]
-pub extern "C" fn bench_write_clock(
+pub fn bench_write_clock(
     pi: u16,
     tp: bool,
     pty: u8,
@@ -40,15 +38,7 @@ pub extern "C" fn bench_write_clock(
 }
 
 // The local date and time of a clock, where one is held.
-#[unsafe(no_mangle)]
-pub extern "C" fn bench_local_date(
-    held: bool,
-    day: u32,
-    hour: u8,
-    minute: u8,
-    negative: bool,
-    half: u8,
-) -> u64
+pub fn bench_local_date(held: bool, day: u32, hour: u8, minute: u8, negative: bool, half: u8) -> u64
     ensures { result ≡ local_code (local_date_of (held_of held (clock_of day hour minute negative half))) }
 {
     local_code(clock::local_date(held_of(held, clock_of(day, hour, minute, negative, half))))

@@ -23,8 +23,7 @@ const TOO_SHORT: u8 = 8;
 const NO_BIT: u8 = 9;
 
 // The state before any bit.
-#[unsafe(no_mangle)]
-pub extern "C" fn bench_fresh(state: &mut [u8]) -> u8
+pub fn bench_fresh(state: &mut [u8]) -> u8
     ensures { (result ≡ saved_number (save_of state.old))
         × (state.new ≡ buffer_of fresh_of state.old) }
 {
@@ -41,8 +40,7 @@ fn saved_code(saved: Saved) -> u8
 }
 
 // Takes one bit.
-#[unsafe(no_mangle)]
-pub extern "C" fn bench_take_bit(state: &mut [u8], bit: u8, told: &mut [u8]) -> u8
+pub fn bench_take_bit(state: &mut [u8], bit: u8, told: &mut [u8]) -> u8
     ensures { (result ≡ bit_refused state.old bit told.old)
         × (state.new ≡ stepped_state state.old bit told.old)
         × (told.new ≡ stepped_told state.old bit told.old) }
@@ -64,14 +62,7 @@ pub extern "C" fn bench_take_bit(state: &mut [u8], bit: u8, told: &mut [u8]) -> 
 
 // Feeds bytes from a place on, up to the next answer, and gives the byte of the next bit; which bit is told. Where a
 // buffer is too short nothing is fed, and the byte comes back.
-#[unsafe(no_mangle)]
-pub extern "C" fn bench_feed(
-    state: &mut [u8],
-    bytes: &[u8],
-    byte: usize,
-    bit: u8,
-    told: &mut [u8],
-) -> usize
+pub fn bench_feed(state: &mut [u8], bytes: &[u8], byte: usize, bit: u8, told: &mut [u8]) -> usize
     ensures { (result ≡ place_after state.old bytes.now byte bit told.old)
         × (state.new ≡ state_after state.old bytes.now byte bit told.old)
         × (told.new ≡ told_after state.old bytes.now byte bit told.old) }

@@ -33,8 +33,7 @@ const RECORD_SIZE: usize = 1128;
 const TOO_SHORT: u8 = 8;
 
 // The record of the groups in some bytes, into a buffer.
-#[unsafe(no_mangle)]
-pub extern "C" fn bench_record(bytes: &[u8], out: &mut [u8]) -> u8
+pub fn bench_record(bytes: &[u8], out: &mut [u8]) -> u8
     ensures { (result ≡ cond (ltb (length out.old) record_size) 8 0)
         × (out.new ≡ record_buffer (record_in bytes.now) out.old) }
 {
