@@ -1,13 +1,12 @@
 -- Digits of an exercise's name, one after the other: what is left spells the exercise, behind what was read.
 use Prim.Native.Nat.{ℕ, suc, ◌+◌, ◌*◌, ◌-◌, ◌<◌, ◌≤◌}
-use mathlib.Core.Path.{◌≡◌, refl, ◌∙◌}
+use mathlib.Core.Path.{◌≡◌, refl}
 use mathlib.Core.List.{List, [], ◌∷◌}
 use mathlib.Core.Bool.{Bool, true, false, cond, ◌&&◌}
 use native.Mathlib.Omega.{arith}
 use native.Mathlib.Numerals.{add-one}
 use lib.ListN.{length, get_or, drop, drop_of_length-le}
 use lib.Seq.{drop-cons}
-use lib.Dec.{leb}
 use borrow.Author.Tests.{le-leb, lt-leb}
 use Rattle.asking.specs.Exercise.{digit_zero, is_digit, all_digits, value_of, last_exercise, named_from, named_of}
 use Rattle.asking.specs.declared.exercise.ExerciseNamed.{ExerciseNamed}

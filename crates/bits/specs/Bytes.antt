@@ -1,5 +1,5 @@
 -- Bytes as bits, eight bits to a byte, first bit highest; and a number as bytes.
-use Rattle.std.specs.Prelude.{ℕ, zero, suc, ◌+◌, ◌*◌, ◌-◌, ◌/◌, ◌%◌, ◌^◌, ◌<◌, List, [], ◌∷◌, get_or}
+use Rattle.std.specs.Prelude.{ℕ, zero, suc, ◌*◌, ◌-◌, ◌/◌, ◌%◌, ◌^◌, ◌<◌, List, [], ◌∷◌, get_or}
 
 -- bit i of the bytes s: bit 0 is the highest of the first byte
 unfoldable pub bit_at : List ℕ → ℕ → ℕ

@@ -2,12 +2,11 @@
 -- the two blocks. Within ten neighbours they are a number below 1024 times a power of x, of which the odd divisor
 -- leaves something; two bits are x^d + 1 times such a power, and no d below 26 makes that a multiple, which is tried
 -- out once.
-use Prim.Native.Nat.{ℕ, zero, suc, ◌+◌, ◌*◌, ◌-◌, ◌/◌, ◌%◌, ◌^◌, ◌<◌, ◌≤◌}
+use Prim.Native.Nat.{ℕ, zero, suc, ◌+◌, ◌*◌, ◌-◌, ◌^◌, ◌<◌, ◌≤◌}
 use mathlib.Core.Path.{◌≡◌, refl, sym, ap, ap₂, ◌∙◌}
 use mathlib.Core.Bool.{Bool, true, false, not, false≢true}
 use mathlib.Core.Logic.{◌⊎◌, inl, inr, ⊎_elim}
-use native.Mathlib.Nat.{add-zero, zero-add, zero-mul, mul_assoc, mul_comm, one-mul, add-mul, pow-suc}
-use native.Mathlib.Decide.{ℕ_discrete}
+use native.Mathlib.Nat.{add-zero, zero-add, zero-mul, one-mul, add-mul, pow-suc}
 use native.Mathlib.Omega.{arith}
 use lib.Dec.{eqb}
 use borrow.Author.Tests.{eq-eqb}
@@ -16,7 +15,6 @@ use lib.Pow.{pow-add}
 use Rattle.bits.specs.Spell.{spell, Bits}
 use Rattle.bits.proofs.Computed.{all_below, below_at}
 use Rattle.bits.proofs.Order.{lt-or-le}
-use Rattle.bits.proofs.Xor.{xor_equal}
 use Rattle.bits.proofs.Spelling.{spell_lt, spell_add, spell-zeros, zeros-spelled, spell-xor}
 use Rattle.blocks.specs.Divide.{over_bits, reduced, remainder}
 use Rattle.blocks.specs.Block.{offset_of, Valid}

@@ -3,15 +3,15 @@
 -- binary digits.
 use Prim.Native.Nat.{ℕ, zero, suc, ◌+◌, ◌*◌, ◌/◌, ◌%◌, ◌^◌, ◌<◌, ◌≤◌}
 use mathlib.Core.Path.{◌≡◌, refl, sym, ap, ap₂, ◌∙◌}
-use mathlib.Core.Logic.{◌⊎◌, ⊎_elim}
+use mathlib.Core.Logic.{⊎_elim}
 use native.Mathlib.Nat.{mod-lt, le_refl, not-suc-le-zero, zero-mul, add-zero, mul-one, mul_assoc, pow-suc, div-add-mod'}
 use native.Mathlib.Decide.{le_ind}
 use native.Mathlib.Omega.{arith}
 use lib.Arith.{bin_ind, half_le}
-use lib.Bits.{bit_xor, xor_shr, xor_mod, xor_lt, xor_block, xor_comm, xor_self, xor_zero_r, xor_zero_l}
+use lib.Bits.{bit_xor, xor_shr, xor_mod, xor_lt, xor_block, xor_zero_r, xor_zero_l}
 use borrow.Author.Tests.{lt-ltb, le-ltb}
 use Rattle.bits.proofs.Order.{lt-or-le}
-use Rattle.bits.proofs.Xor.{xors, xor_assoc, xor-left, xor_front, xor_equal}
+use Rattle.bits.proofs.Xor.{xors, xor_assoc, xor_equal}
 use Rattle.blocks.specs.Divide.{divisor, over_bits, reduced, bring_down, remainder, add_shifted, times, Multiple}
 
 -- ---- the step over bits: how high the first number is makes no difference

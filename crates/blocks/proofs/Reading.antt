@@ -1,14 +1,14 @@
 -- Laws of reading and judging: what each answers, exactly when; what is written reads back, and what reads is what
 -- was written. Reading goes by the remainder alone (`fitting`); each law is then five cases or one induction over the
 -- kinds.
-use Prim.Native.Nat.{ℕ, ◌+◌, ◌*◌, ◌/◌, ◌%◌, ◌^◌, ◌<◌, ◌≤◌}
-use mathlib.Core.Path.{◌≡◌, refl, sym, ap, ap₂, ◌∙◌}
+use Prim.Native.Nat.{ℕ, ◌%◌, ◌<◌, ◌≤◌}
+use mathlib.Core.Path.{◌≡◌, refl, sym, ap, ◌∙◌}
 use mathlib.Core.List.{List, [], ◌∷◌}
 use mathlib.Core.Bool.{Bool, true, false, cond, ◌||◌}
 use mathlib.Core.Logic.{⊎_elim}
 use native.Mathlib.Omega.{arith}
 use lib.Dec.{eqb, leb}
-use borrow.Author.Tests.{eq-eqb, ne_eqb, eqb-true, eqb-false, le-leb, lt-leb, leb-true, leb-false}
+use borrow.Author.Tests.{ne_eqb, eqb-true, le-leb, lt-leb, leb-true, leb-false}
 use Rattle.blocks.specs.Divide.{remainder}
 use Rattle.blocks.specs.Block.{kinds, offset_of, write_of, Valid, valid, word_of, limit, among, read_of, judge_of}
 use Rattle.blocks.specs.Answers.{

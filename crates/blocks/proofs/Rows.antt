@@ -1,7 +1,7 @@
 -- The sixteen rows agree with the division: shown once over the table, which is compared with computed remainders.
 -- Adding up the rows of a word's bits, bit 15 first, is then the division of word × x^10, one bit more at each row.
-use Prim.Native.Nat.{ℕ, zero, suc, ◌+◌, ◌*◌, ◌-◌, ◌/◌, ◌%◌, ◌^◌, ◌<◌, ◌≤◌}
-use mathlib.Core.Path.{◌≡◌, refl, sym, ap, ap₂, ◌∙◌}
+use Prim.Native.Nat.{ℕ, zero, suc, ◌+◌, ◌*◌, ◌-◌, ◌/◌, ◌%◌, ◌^◌, ◌<◌}
+use mathlib.Core.Path.{◌≡◌, sym, ap, ◌∙◌}
 use mathlib.Core.List.{List, [], ◌∷◌}
 use native.Mathlib.Nat.{mod-lt, pow-suc, mul_assoc, mul_comm, one-mul, add-mul, suc-add}
 use native.Mathlib.Numerals.{add-one}

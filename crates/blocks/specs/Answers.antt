@@ -1,5 +1,5 @@
 -- The paper's number and values for each answer about a block.
-use Rattle.std.specs.Prelude.{ℕ, ◌/◌, ◌^◌, List, [], ◌∷◌, Bool, false, ◌||◌, cond, eqb, leb}
+use Rattle.std.specs.Prelude.{ℕ, List, [], ◌∷◌, Bool, false, ◌||◌, cond, eqb, leb}
 use Rattle.blocks.specs.Divide.{remainder}
 use Rattle.blocks.specs.Block.{kinds, offset_of, word_of, limit}
 use Rattle.blocks.specs.declared.Kind.{Kind}

@@ -1,6 +1,6 @@
 -- The receiver behind bytes: what comes of a bit, and of bytes, where a buffer is too short and where both have room.
 use Prim.Native.Nat.{ℕ, ◌<◌, ◌≤◌}
-use mathlib.Core.Path.{◌≡◌, refl, sym, ap, ◌∙◌}
+use mathlib.Core.Path.{◌≡◌, ap, ◌∙◌}
 use mathlib.Core.Bool.{true, false}
 use mathlib.Core.List.{List, ◌++◌}
 use lib.Dec.{ltb}

@@ -10,7 +10,6 @@ use lib.Dec.{eqb, lit≤}
 use borrow.Author.Tests.{eq-eqb, ne_eqb}
 use Rattle.clock.specs.declared.Clock.{Clock}
 use Rattle.clock.specs.declared.Held.TheVariants.{At}
-use Rattle.clock.specs.declared.Written.{Written}
 use Rattle.clock.specs.declared.Written.TheVariants.{Words, OutOfRange}
 use Rattle.clock.specs.Range.{last_day, InRange, in_range, last_pty}
 use Rattle.clock.specs.Words.{bits, day_in, hour_in, half_in, sign_of, clock_in, read_of}

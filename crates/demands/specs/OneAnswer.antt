@@ -2,7 +2,7 @@
 -- and where something is lent, so is the whole of it at the two exits. What is asked and promised is the function's own
 -- contract, as a caller meets and learns it (`Asked` and `Learnt`, which are made from the `requires` and `ensures` in
 -- src/); nothing of it is written again here.
-use Rattle.std.specs.Prelude.{ℕ, ◌^◌, ◌<◌, ◌≡◌, refl}
+use Rattle.std.specs.Prelude.{ℕ, ◌^◌, ◌<◌, ◌≡◌}
 use contract.Lifetimes.{Lfts}
 use denote.Triple.Entry.{Args, Res}
 use denote.Triple.Clauses.{Ended, AtExit}

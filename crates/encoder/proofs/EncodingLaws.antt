@@ -1,14 +1,12 @@
 -- What an encoding of any list of addresses holds: 13 bytes for each, and at its place the group that brings it, block
 -- by block and word by word. The bytes before group g are dropped, those behind it are not read.
-use Prim.Native.Nat.{ℕ, zero, suc, ◌+◌, ◌*◌, ◌^◌, ◌<◌, ◌≤◌}
+use Prim.Native.Nat.{ℕ, zero, suc, ◌+◌, ◌*◌, ◌<◌, ◌≤◌}
 use mathlib.Core.Path.{◌≡◌, refl, sym, ap, ap₂, ◌∙◌}
 use mathlib.Core.List.{List, [], ◌∷◌, ◌++◌, append_assoc, append-nil}
-use mathlib.Core.Logic.{⊎_elim}
 use native.Mathlib.Omega.{arith}
-use lib.ListN.{length, get_or, take, drop, length-append, get_or-append}
-use lib.Seq.{take_at, drop-append-add, drop-drop, get_or-append-add, drop-cons}
-use Rattle.bits.specs.Bytes.{Bytes, bit_at}
-use Rattle.bits.proofs.Order.{lt-or-le}
+use lib.ListN.{length, get_or, take, drop, length-append}
+use lib.Seq.{take_at, drop-append-add, drop-cons}
+use Rattle.bits.specs.Bytes.{Bytes}
 use Rattle.bits.proofs.ByteBits.{spell_front, bytes_of_lt}
 use Rattle.groups.specs.Written.{group_size, group_bytes, block_of, block_in, word_in}
 use Rattle.groups.proofs.RoomLaws.{length-group}

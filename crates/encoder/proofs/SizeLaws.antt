@@ -7,7 +7,7 @@ use native.Mathlib.Omega.{arith}
 use lib.ListN.{length}
 use Rattle.groups.specs.Written.{group_size}
 use Rattle.keys.specs.Fields.{wanted_of}
-use Rattle.keys.specs.Wanted.{all_addresses, addresses_of}
+use Rattle.keys.specs.Wanted.{addresses_of}
 use Rattle.keys.proofs.WantedLaws.{addresses_wanted, addresses_unwanted, addresses_most, addresses_least}
 use Rattle.encoder.specs.Encoding.{sent_of, size_of}
 use Rattle.encoder.proofs.EncodingLaws.{length_encoding}

@@ -1,8 +1,8 @@
 -- What a group carries, by its type and version together: word 2 / 2048 is 0 for 0A, 1 for 0B, 4 for 2A, 5 for 2B, 8
 -- for 4A.
-use Prim.Native.Nat.{ℕ, ◌/◌, ◌%◌, ◌^◌}
-use mathlib.Core.Path.{◌≡◌, refl}
-use mathlib.Core.Bool.{Bool, true, false, cond}
+use Prim.Native.Nat.{ℕ, ◌/◌, ◌^◌}
+use mathlib.Core.Path.{◌≡◌}
+use mathlib.Core.Bool.{cond}
 use mathlib.Core.Logic.{◌⊎◌, inl, inr, ⊎_elim}
 use native.Mathlib.Decide.{ℕ_discrete}
 use native.Mathlib.Omega.{arith}
@@ -11,7 +11,6 @@ use borrow.Author.Tests.{eq-eqb, ne_eqb}
 use Rattle.bits.proofs.Order.{lt-or-le}
 use Rattle.groups.specs.Header.{type_of, version_of}
 use Rattle.groups.specs.Content.{switches_of, name_address, text_address, text_flag, content_of}
-use Rattle.groups.specs.declared.fields.Content.{Content}
 use Rattle.groups.specs.declared.fields.Content.TheVariants.{Name0A, Name0B, Text2A, Text2B, Clock4A, Other}
 
 -- the version is 0 or 1

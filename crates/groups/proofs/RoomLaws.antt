@@ -1,14 +1,14 @@
 -- Putting a group's bytes into a buffer: with room they are pasted in, without it nothing changes.
 use Prim.Native.Nat.{ℕ, ◌+◌, ◌<◌, ◌≤◌}
-use mathlib.Core.Path.{◌≡◌, refl, sym, ap, ◌∙◌}
+use mathlib.Core.Path.{◌≡◌, refl, ap, ◌∙◌}
 use mathlib.Core.List.{List, ◌++◌}
-use mathlib.Core.Bool.{Bool, true, false, cond}
+use mathlib.Core.Bool.{cond}
 use native.Mathlib.Omega.{arith}
 use lib.ListN.{length, take, drop}
 use lib.Seq.{paste, take_all}
 use borrow.Author.Tests.{lt-ltb, le-ltb}
 use Rattle.bits.proofs.ByteBits.{length-bytes_of}
-use Rattle.groups.specs.Written.{group_size, group_bytes, no_room, put_at_of, put_number, buffer_of, four_blocks, block_of}
+use Rattle.groups.specs.Written.{group_size, group_bytes, no_room, put_at_of, buffer_of, four_blocks, block_of}
 use Rattle.groups.specs.declared.bytes.Put.TheVariants.{Done, TooShort}
 
 -- a group's bytes are thirteen

@@ -1,12 +1,12 @@
 -- A group written as thirteen bytes reads back the same, for every four words; and thirteen bytes whose blocks are
 -- each valid at their place are what writing their words gives.
-use Prim.Native.Nat.{ℕ, zero, suc, ◌+◌, ◌*◌, ◌-◌, ◌/◌, ◌%◌, ◌^◌, ◌<◌, ◌≤◌}
-use mathlib.Core.Path.{◌≡◌, refl, sym, ap, ap₂, ◌∙◌}
+use Prim.Native.Nat.{ℕ, zero, suc, ◌+◌, ◌*◌, ◌-◌, ◌/◌, ◌%◌, ◌^◌, ◌<◌}
+use mathlib.Core.Path.{◌≡◌, sym, ap, ap₂, ◌∙◌}
 use mathlib.Core.List.{List, [], ◌∷◌}
 use native.Mathlib.Omega.{arith}
 use lib.ListN.{length, get_or}
 use Rattle.bits.specs.Spell.{spell}
-use Rattle.bits.specs.Bytes.{bit_at, Bytes, bytes_of}
+use Rattle.bits.specs.Bytes.{bit_at, Bytes}
 use Rattle.bits.proofs.Spelling.{spell_add}
 use Rattle.bits.proofs.ByteBits.{bit_at_lt, spell-bytes_of, bytes_of-spell}
 use Rattle.blocks.specs.Block.{write_of, Valid, judge_of}
@@ -16,7 +16,7 @@ use Rattle.blocks.proofs.Reading.{judge-write}
 use Rattle.groups.specs.Group.{with_block_of, all_good_of}
 use Rattle.groups.specs.Header.{expected_of}
 use Rattle.groups.specs.Written.{block_of, four_blocks, group_bytes, block_in, word_in, judged_in, group_in}
-use Rattle.groups.proofs.BlocksInBytes.{word_in-block, word_in-lt}
+use Rattle.groups.proofs.BlocksInBytes.{word_in-block}
 
 -- each of them has 16 bits
 abbrev pub Words : List ℕ → Type 0

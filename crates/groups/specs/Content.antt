@@ -1,6 +1,6 @@
 -- What a group carries by its type: 0A and 0B, 2A, 2B, 4A, or another.
-use Rattle.std.specs.Prelude.{ℕ, ◌/◌, ◌%◌, ◌^◌, List, Bool, cond, eqb, get_or}
-use Rattle.groups.specs.Header.{type_of, version_of, tp_of, pty_of, low_of}
+use Rattle.std.specs.Prelude.{ℕ, ◌/◌, ◌%◌, ◌^◌, Bool, cond, eqb}
+use Rattle.groups.specs.Header.{type_of, version_of, pty_of, low_of}
 use Rattle.groups.specs.declared.fields.Header.{Header}
 use Rattle.groups.specs.declared.fields.Switches.{Switches}
 use Rattle.groups.specs.declared.fields.Content.{Content}

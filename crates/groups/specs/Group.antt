@@ -1,5 +1,5 @@
 -- The group: four words of 16 bits, and a mask that says, by one yes or no for each word, which were good.
-use Rattle.std.specs.Prelude.{ℕ, ◌-◌, List, Bool, true, false, cond, ◌&&◌, leb, get_or, set, replicate}
+use Rattle.std.specs.Prelude.{ℕ, List, Bool, true, false, cond, ◌&&◌, leb, get_or, set, replicate}
 use Rattle.blocks.specs.declared.Judged.{Judged}
 use Rattle.blocks.specs.declared.Judged.TheVariants.{Good, Bad, Refused}
 use Rattle.groups.specs.declared.Group.{Group}

@@ -1,1 +1,3 @@
+#![tactic(auto)]
+
 // What the rules say of all the bits that came. This floor has meanings and laws and no code of its own.

@@ -1,7 +1,7 @@
 -- Answer 1 exactly if the sheet has no such exercise, answer 2 exactly if it has one and its key is not good, answer 0
 -- exactly if it has one and its key is good. Both tests are decided; `key_of` computes at each outcome of them.
 use Prim.Native.Nat.{ℕ}
-use mathlib.Core.Path.{◌≡◌, refl, sym, ap, ◌∙◌}
+use mathlib.Core.Path.{◌≡◌, refl, sym, ◌∙◌}
 use mathlib.Core.List.{List, []}
 use mathlib.Core.Bool.{Bool, true, false, cond, not, true≢false}
 use native.Mathlib.Omega.{arith}

@@ -1,10 +1,10 @@
 -- Texts that are put where there may be no room: with room they are written, without it nothing is.
 use Prim.Native.Nat.{ℕ, ◌+◌, ◌<◌, ◌≤◌}
-use mathlib.Core.Path.{◌≡◌, ◌∙◌}
+use mathlib.Core.Path.{◌∙◌}
 use mathlib.Core.List.{List}
 use lib.ListN.{length, take}
 use borrow.Author.Tests.{le-leb, lt-leb}
-use Rattle.letters.specs.Letters.{written, Wrote, has_room, put_of, end_of, Put}
+use Rattle.letters.specs.Letters.{Wrote, has_room, put_of, end_of, Put}
 use Rattle.letters.proofs.Handing.{front}
 
 module _ {text out after : List ℕ} {at end : ℕ} where

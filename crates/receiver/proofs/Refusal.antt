@@ -1,6 +1,6 @@
 -- Laws of the refusal: a bit is answered 9 exactly if it is neither 0 nor 1, and then nothing changes. And a group stands
 -- beside an answer only where one is answered.
-use Prim.Native.Nat.{ℕ, ◌+◌, ◌<◌, ◌≤◌}
+use Prim.Native.Nat.{ℕ, ◌+◌, ◌<◌}
 use mathlib.Core.Path.{◌≡◌, refl, sym, ◌∙◌}
 use mathlib.Core.Bool.{Bool, true, false, cond, true≢false}
 use lib.Dec.{ltb}

@@ -8,7 +8,7 @@ use mathlib.Core.Logic.{◌⊎◌, inl, inr}
 use native.Mathlib.Decide.{ℕ_discrete}
 use native.Mathlib.Omega.{arith}
 use Rattle.frequencies.specs.declared.AfList.{AfList}
-use Rattle.frequencies.specs.AfList.{empty_of, taken_of}
+use Rattle.frequencies.specs.AfList.{taken_of}
 use Rattle.frequencies.specs.AfHistory.{af_after, taken_all}
 use Rattle.frequencies.proofs.AfLaws.{words_taken, word_more}
 use Rattle.clock.specs.declared.Held.{Held}

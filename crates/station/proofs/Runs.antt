@@ -2,12 +2,12 @@
 -- they begin anew.
 use Prim.Native.Nat.{ℕ}
 use mathlib.Core.Path.{◌≡◌, refl, sym, ap, ◌∙◌}
-use mathlib.Core.Bool.{Bool, true, false, cond, ◌&&◌}
+use mathlib.Core.Bool.{Bool, true, false}
 use mathlib.Core.List.{List, [], ◌∷◌, ◌++◌}
 use mathlib.Core.Logic.{◌⊎◌, inl, inr}
 use lib.Dec.{eqb}
 use borrow.Author.Tests.{eq-eqb, ne_eqb, eqb-true}
-use Rattle.frequencies.proofs.AfTests.{true_by, false_by, and_left, and_right}
+use Rattle.frequencies.proofs.AfTests.{false_by, and_left, and_right}
 use Rattle.groups.specs.declared.Group.{Group}
 use Rattle.station.specs.History.{each, since_change}
 use Rattle.station.proofs.Lists.{each_more}

@@ -1,8 +1,8 @@
 -- Groups that all say the same of a station give a record that holds just that: PI, PTY and TP, the whole name once
 -- each pair of it came, the whole text once each pair of it came.
-use Prim.Native.Nat.{ℕ, ◌+◌, ◌*◌, ◌/◌, ◌<◌}
+use Prim.Native.Nat.{ℕ, ◌/◌, ◌<◌}
 use mathlib.Core.Path.{◌≡◌, refl, sym, ap, ◌∙◌}
-use mathlib.Core.Bool.{Bool, true, false, cond, ◌&&◌, ◌||◌, true≢false, false≢true}
+use mathlib.Core.Bool.{Bool, true, false, cond, ◌||◌, false≢true}
 use mathlib.Core.List.{List, [], ◌∷◌}
 use native.Mathlib.Omega.{arith}
 use lib.Dec.{eqb}
@@ -13,9 +13,7 @@ use Rattle.groups.specs.declared.fields.Content.{Content}
 use Rattle.groups.specs.declared.fields.Content.TheVariants.{Name0A, Name0B, Text2A, Text2B, Clock4A, Other}
 use Rattle.groups.specs.Group.{counts_of}
 use Rattle.station.specs.declared.HeldPi.TheVariants.{Pi, NoPi}
-use Rattle.station.specs.declared.HeldFlag.{HeldFlag}
 use Rattle.station.specs.declared.HeldFlag.TheVariants.{Flag, NoFlag}
-use Rattle.station.specs.declared.Record.{Record}
 use Rattle.station.specs.Record.{space, name_size, name_pairs, text_size, text_pairs, fresh_of}
 use Rattle.station.specs.Update.{updated_all}
 use Rattle.station.specs.History.{those, some, each, latest, since_change, listed, pi_in, pty_in, tp_in, carried_in}

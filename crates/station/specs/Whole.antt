@@ -1,5 +1,5 @@
 -- Groups that all say the same of a station: the same PI, PTY and TP, and pairs of one name and of one text.
-use Rattle.std.specs.Prelude.{ℕ, ◌/◌, ◌<◌, ◌≡◌, Bool, true, List, [], ◌∷◌, length, get_or}
+use Rattle.std.specs.Prelude.{ℕ, ◌/◌, ◌<◌, ◌≡◌, Bool, true, List, [], ◌∷◌, get_or}
 use Rattle.groups.specs.declared.Group.{Group}
 use Rattle.groups.specs.Group.{counts_of}
 use Rattle.station.specs.Record.{name_size, name_pairs, text_size, text_pairs}

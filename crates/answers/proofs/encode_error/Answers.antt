@@ -4,7 +4,6 @@ use native.Mathlib.Omega.{arith}
 use Rattle.encoder.specs.Answer.{encoded_number}
 use Rattle.answers.specs.Encoded.{error_text, error_of, error_room}
 use Rattle.letters.proofs.Handing.{count_front, tells_within}
-use borrow.Author.Rules.{rules}
 use Rattle.answers.proofs.encode_error.Goals as goal
 
 pub slice_bounds-tell-end : goal.slice_bounds-tell-end

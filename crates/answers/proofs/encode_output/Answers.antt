@@ -6,7 +6,6 @@ use lib.Seq.{length-take-le}
 use Rattle.answers.specs.Encoded.{written_of, output_of, output_room}
 use Rattle.letters.proofs.Handing.{tells_short-enough}
 use Rattle.answers.proofs.Encodings.{written_most, written_front, output_most}
-use borrow.Author.Rules.{rules}
 use Rattle.answers.proofs.encode_output.Goals as goal
 
 pub slice_bounds-own-end : goal.slice_bounds-own-end

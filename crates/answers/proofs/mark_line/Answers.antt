@@ -3,7 +3,6 @@ use mathlib.Core.Path.{ap}
 use native.Mathlib.Omega.{arith}
 use Rattle.answers.specs.Line.{line_of, mark_line, line_room}
 use Rattle.letters.proofs.Handing.{count_front, tells_within}
-use borrow.Author.Rules.{rules}
 use Rattle.answers.proofs.mark_line.Goals as goal
 
 pub slice_bounds-tell-end : goal.slice_bounds-tell-end

@@ -3,7 +3,6 @@ use native.Mathlib.Omega.{arith}
 use mathlib.Core.Path.{◌∙◌}
 use Rattle.answers.specs.Line.{marked_of}
 use Rattle.answers.proofs.Lines.{nothing-marked, behind-first}
-use borrow.Author.Rules.{rules}
 use Rattle.answers.proofs.marked.Goals as goal
 
 pub returns-then-input-eq0 : goal.returns-then-input-eq0

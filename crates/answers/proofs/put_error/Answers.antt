@@ -3,7 +3,6 @@ use native.Mathlib.Omega.{arith}
 use borrow.Author.Tests.{eq-eqb, ne_eqb}
 use Rattle.letters.proofs.Buffers.{wrote_none, wrote_two}
 use Rattle.letters.proofs.Puts.{put_wrote}
-use borrow.Author.Rules.{rules}
 use Rattle.answers.proofs.put_error.Goals as goal
 
 pub returns-then-number-eq0 : goal.returns-then-number-eq0

@@ -3,7 +3,6 @@ use native.Mathlib.Omega.{arith}
 use Rattle.letters.proofs.Buffers.{wrote_two}
 use Rattle.letters.proofs.Puts.{put_wrote}
 use Rattle.letters.proofs.Sizes.{decimal_most}
-use borrow.Author.Rules.{rules}
 use Rattle.answers.proofs.put_labelled.Goals as goal
 
 pub returns : goal.returns

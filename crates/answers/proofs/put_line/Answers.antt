@@ -3,7 +3,6 @@ use native.Mathlib.Omega.{arith}
 use Rattle.answers.specs.Line.{line_of}
 use Rattle.letters.proofs.Buffers.{wrote_two}
 use Rattle.letters.proofs.Puts.{put_wrote}
-use borrow.Author.Rules.{rules}
 use Rattle.answers.proofs.put_line.Goals as goal
 
 pub returns : goal.returns

@@ -2,7 +2,6 @@
 use native.Mathlib.Omega.{arith}
 use Rattle.answers.specs.Encoded.{error_room}
 use Rattle.letters.proofs.Handing.{within_wrote}
-use borrow.Author.Rules.{rules}
 use Rattle.answers.proofs.whole_error.Goals as goal
 
 pub returns : goal.returns

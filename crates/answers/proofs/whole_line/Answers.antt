@@ -2,7 +2,6 @@
 use native.Mathlib.Omega.{arith}
 use Rattle.answers.specs.Line.{line_room}
 use Rattle.letters.proofs.Handing.{within_wrote}
-use borrow.Author.Rules.{rules}
 use Rattle.answers.proofs.whole_line.Goals as goal
 
 pub returns : goal.returns

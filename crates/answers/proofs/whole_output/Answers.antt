@@ -2,7 +2,6 @@
 use native.Mathlib.Omega.{arith}
 use Rattle.answers.specs.Encoded.{output_room}
 use Rattle.letters.proofs.Handing.{within_wrote}
-use borrow.Author.Rules.{rules}
 use Rattle.answers.proofs.whole_output.Goals as goal
 
 pub returns : goal.returns

@@ -1,5 +1,4 @@
 -- `answers::with_verdict` meets its promise: the number and the place are the marker's.
-use borrow.Author.Rules.{rules}
 use Rattle.answers.proofs.with_verdict.Goals as goal
 
 pub returns : goal.returns

@@ -1,8 +1,6 @@
 -- `asking::is_standard` meets its promise: by the length, and then by the character.
-use mathlib.Core.Path.{◌≡◌}
 use Rattle.asking.specs.Words.{is_standard}
 use Rattle.asking.proofs.Texts.{other_than_one, one_same}
-use borrow.Author.Rules.{rules}
 use Rattle.asking.proofs.is_standard.Goals as goal
 
 pub returns-then-name-ne1 : goal.returns-then-name-ne1

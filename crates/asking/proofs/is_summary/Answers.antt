@@ -1,7 +1,6 @@
 -- `asking::is_summary` meets its promise: by the length, and then by the two characters.
 use Rattle.asking.specs.Words.{is_summary}
 use Rattle.asking.proofs.Texts.{other_than_two, two_same}
-use borrow.Author.Rules.{rules}
 use Rattle.asking.proofs.is_summary.Goals as goal
 
 pub returns-then-argument-ne2 : goal.returns-then-argument-ne2

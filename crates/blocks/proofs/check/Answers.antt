@@ -2,7 +2,6 @@
 use lib.Bits.{bit_xor}
 use mathlib.Core.Path.{ap₂}
 use Rattle.blocks.specs.Block.{check_of}
-use borrow.Author.Rules.{rules}
 use Rattle.blocks.proofs.check.Goals as goal
 
 pub returns : goal.returns

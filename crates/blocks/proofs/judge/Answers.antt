@@ -2,7 +2,6 @@
 use mathlib.Core.Path.{sym, ◌∙◌}
 use native.Mathlib.Omega.{arith}
 use Rattle.blocks.proofs.Reading.{judge_settled, judge-long, judge_left, judge_none_left}
-use borrow.Author.Rules.{rules}
 use Rattle.blocks.proofs.judge.Goals as goal
 
 pub returns-then-bits-ge-LIMIT : goal.returns-then-bits-ge-LIMIT

@@ -1,12 +1,9 @@
 -- `blocks::left` meets its promise: the word and the lowest ten bits are divided apart.
-use Prim.Native.Nat.{ℕ, ◌%◌, ◌/◌, ◌*◌}
-use mathlib.Core.Path.{◌≡◌, ◌∙◌, ap₂}
+use Prim.Native.Nat.{ℕ, ◌%◌, ◌/◌}
+use mathlib.Core.Path.{◌≡◌}
 use native.Mathlib.Omega.{arith}
-use lib.Bits.{bit_xor}
-use Rattle.blocks.specs.Divide.{remainder}
 use Rattle.blocks.specs.Block.{limit}
 use Rattle.blocks.proofs.Rows.{remainder-word}
-use borrow.Author.Rules.{rules}
 use Rattle.blocks.proofs.left.Goals as goal
 
 pub returns : goal.returns

@@ -5,7 +5,6 @@ use Rattle.blocks.specs.declared.Kind.TheVariants.{A, B, C, CPrime, D}
 use Rattle.blocks.specs.Block.{offset_of}
 use Rattle.blocks.proofs.Validity.{each-kind}
 use Rattle.blocks.proofs.Reading.{read_settled, read-long, read_left, read_none_left}
-use borrow.Author.Rules.{rules}
 use Rattle.blocks.proofs.read.Goals as goal
 
 pub returns-then-bits-ge-LIMIT : goal.returns-then-bits-ge-LIMIT

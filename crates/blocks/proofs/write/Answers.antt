@@ -1,6 +1,5 @@
 -- `blocks::write` meets its promise: the word, then the check.
 use Rattle.blocks.specs.Block.{write_of}
-use borrow.Author.Rules.{rules}
 use Rattle.blocks.proofs.write.Goals as goal
 
 pub returns : goal.returns

@@ -6,7 +6,6 @@ use Rattle.clock.proofs.Parts.{clock-same}
 use Prim.Native.Nat.{ℕ, ◌%◌}
 use native.Mathlib.Omega.{arith}
 use Rattle.clock.specs.Words.{bits, half_in, clock_in}
-use borrow.Author.Rules.{rules}
 use Rattle.clock.proofs.clock_in.Goals as goal
 
 -- Bit 5 of word 4 is a sign where the offset is not 0.

@@ -1,7 +1,6 @@
 -- `clock::date_time` meets its contract: it is the definition's record.
 use mathlib.Core.Path.{refl}
 use Rattle.clock.specs.Local.{date_time_of}
-use borrow.Author.Rules.{rules}
 use Rattle.clock.proofs.date_time.Goals as goal
 
 pub returns : goal.returns

@@ -3,7 +3,6 @@ use Prim.Native.Nat.{ℕ, ◌%◌, ◌<◌}
 use mathlib.Core.Path.{◌≡◌, sym, ap, ◌∙◌}
 use mathlib.Core.Bool.{Bool}
 use native.Mathlib.Omega.{arith}
-use borrow.Author.Tests.{not-true, not-false}
 use Rattle.clock.specs.declared.Clock.{Clock}
 use Rattle.clock.specs.declared.DateTime.{DateTime}
 use Rattle.clock.specs.declared.LocalTime.{LocalTime}
@@ -14,7 +13,6 @@ use Rattle.clock.specs.Calendar.{date_of, weekday_of}
 use Rattle.clock.specs.Local.{local_minutes, local_time_of, date_time_of, local_shown, local_date_of}
 use Rattle.clock.proofs.Ranges.{in_days_true}
 use Rattle.clock.proofs.Numbers.{date_said, date-none, date_utc_out, date_local_out, date_at}
-use borrow.Author.Rules.{rules}
 use Rattle.clock.proofs.local_date.Goals as goal
 
 -- The test of the local day.

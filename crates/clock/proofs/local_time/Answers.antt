@@ -3,7 +3,6 @@ use Prim.Native.Nat.{ℕ, ◌/◌, ◌%◌}
 use mathlib.Core.Path.{ap}
 use Rattle.clock.specs.declared.LocalTime.{LocalTime}
 use Rattle.clock.specs.Local.{local_minutes, local_time_of}
-use borrow.Author.Rules.{rules}
 use Rattle.clock.proofs.local_time.Goals as goal
 
 -- Minutes as a local day and the minutes since its midnight.

@@ -3,7 +3,6 @@ use mathlib.Core.Path.{sym, ap, ◌∙◌}
 use Rattle.clock.specs.declared.Held.TheVariants.{At, Nothing}
 use Rattle.clock.specs.Range.{in_range}
 use Rattle.clock.proofs.Numbers.{read_said, read_at, read_nothing}
-use borrow.Author.Rules.{rules}
 use Rattle.clock.proofs.read.Goals as goal
 
 pub returns-then-in_range : goal.returns-then-in_range

@@ -1,5 +1,4 @@
 -- `clock::shifted` meets its contract: the sign says whether the offset is taken away or added.
-use borrow.Author.Rules.{rules}
 use Rattle.clock.proofs.shifted.Goals as goal
 
 pub returns-then-negative : goal.returns-then-negative

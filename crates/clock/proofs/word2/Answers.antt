@@ -1,7 +1,6 @@
 -- `clock::word2` meets its contract: it is the sum of the fields at their places.
 use native.Mathlib.Omega.{arith}
 use Rattle.clock.specs.Words.{word2_of}
-use borrow.Author.Rules.{rules}
 use Rattle.clock.proofs.word2.Goals as goal
 
 pub returns : goal.returns

@@ -1,7 +1,6 @@
 -- `clock::word3` meets its contract: it is the sum of the fields at their places.
 use mathlib.Core.Path.{refl}
 use Rattle.clock.specs.Words.{word3_of}
-use borrow.Author.Rules.{rules}
 use Rattle.clock.proofs.word3.Goals as goal
 
 pub returns : goal.returns

@@ -5,7 +5,6 @@ use native.Mathlib.Omega.{arith}
 use Rattle.clock.specs.declared.Written.{Written}
 use Rattle.clock.proofs.Ranges.{in_range_true}
 use Rattle.clock.proofs.Numbers.{write_said, write_words, write_out, write_over}
-use borrow.Author.Rules.{rules}
 use Rattle.clock.proofs.write.Goals as goal
 
 pub returns-then-pty-gt-LAST_PTY : goal.returns-then-pty-gt-LAST_PTY

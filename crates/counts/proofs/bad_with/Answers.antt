@@ -1,5 +1,4 @@
 -- `counts::bad_with` meets its promise: by whether all blocks were good.
-use borrow.Author.Rules.{rules}
 use Rattle.counts.proofs.bad_with.Goals as goal
 
 pub returns-then-is_all_good : goal.returns-then-is_all_good

@@ -1,5 +1,4 @@
 -- `counts::counted` meets its promise: by the answer.
-use borrow.Author.Rules.{rules}
 use Rattle.counts.proofs.counted.Goals as goal
 
 pub returns-in-Locked : goal.returns-in-Locked

@@ -1,7 +1,6 @@
 -- `counts::more` meets its promise: by whether the count is the largest.
 use Prim.Native.Nat.{◌-◌, ◌^◌}
 use borrow.Author.Tests.{lt-ltb, le-ltb}
-use borrow.Author.Rules.{rules}
 use Rattle.counts.proofs.more.Goals as goal
 
 pub returns-then-count-lt-MOST : goal.returns-then-count-lt-MOST

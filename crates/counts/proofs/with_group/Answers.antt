@@ -1,5 +1,4 @@
 -- `counts::with_group` meets its promise: one group more, and one bad more unless all blocks were good.
-use borrow.Author.Rules.{rules}
 use Rattle.counts.proofs.with_group.Goals as goal
 
 pub returns : goal.returns

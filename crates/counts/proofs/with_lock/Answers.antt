@@ -1,5 +1,4 @@
 -- `counts::with_lock` meets its promise: one more.
-use borrow.Author.Rules.{rules}
 use Rattle.counts.proofs.with_lock.Goals as goal
 
 pub returns : goal.returns

@@ -1,6 +1,5 @@
 -- `encoder::encode` meets its contract: by what `key_of` answers.
 use Rattle.encoder.proofs.PromiseLaws.{promise_none, promise_bad, promise_good}
-use borrow.Author.Rules.{rules}
 use Rattle.encoder.proofs.encode.Goals as goal
 
 pub returns-in-NoKey : goal.returns-in-NoKey

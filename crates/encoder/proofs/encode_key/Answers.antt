@@ -1,10 +1,7 @@
 -- `encoder::encode_key` meets its contract: by whether the buffer has room for the 13 bytes of each address sent.
-use mathlib.Core.Path.{sym, ap, ◌∙◌, refl}
 use native.Mathlib.Omega.{arith}
-use lib.ListN.{length}
 use Rattle.encoder.proofs.SizeLaws.{size_sent}
 use Rattle.encoder.proofs.BufferLaws.{key_short, key_written}
-use borrow.Author.Rules.{rules}
 use Rattle.encoder.proofs.encode_key.Goals as goal
 
 pub returns-then-out-size : goal.returns-then-out-size

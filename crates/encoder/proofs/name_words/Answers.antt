@@ -1,6 +1,5 @@
 -- `encoder::name_words` meets its contract: each word is the field that it is read from.
 use Rattle.encoder.specs.Words.{name_words}
-use borrow.Author.Rules.{rules}
 use Rattle.encoder.proofs.name_words.Goals as goal
 
 pub returns : goal.returns

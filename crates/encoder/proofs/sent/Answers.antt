@@ -1,7 +1,6 @@
 -- `encoder::sent` meets its contract: as many addresses are sent as are wanted.
 use mathlib.Core.Path.{sym, ◌∙◌}
 use native.Mathlib.Omega.{arith}
-use borrow.Author.Rules.{rules}
 use Rattle.keys.proofs.WantedLaws.{addresses_most}
 use Rattle.encoder.proofs.SentLaws.{length_sent}
 use Rattle.encoder.proofs.sent.Goals as goal

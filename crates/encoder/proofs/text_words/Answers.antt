@@ -1,6 +1,5 @@
 -- `encoder::text_words` meets its contract: each word is the field that it is read from.
 use Rattle.encoder.specs.Words.{text_words}
-use borrow.Author.Rules.{rules}
 use Rattle.encoder.proofs.text_words.Goals as goal
 
 pub returns : goal.returns

@@ -1,7 +1,6 @@
 -- `encoder::tp_bit` meets its contract: by whether the key has TP.
 use mathlib.Core.Path.{sym, ◌∙◌}
 use native.Mathlib.Omega.{arith}
-use borrow.Author.Rules.{rules}
 use Rattle.encoder.proofs.tp_bit.Goals as goal
 
 pub returns-then-tp : goal.returns-then-tp

@@ -1,7 +1,6 @@
 -- `encoder::word2` meets its contract: it is the sum of the fields at their places.
 use native.Mathlib.Omega.{arith}
 use Rattle.encoder.specs.Words.{word2_of}
-use borrow.Author.Rules.{rules}
 use Rattle.encoder.proofs.word2.Goals as goal
 
 pub returns : goal.returns

@@ -1,7 +1,6 @@
 -- `encoder::words_at` meets its contract: a name address has the words of 0A, any other those of 2A.
 use mathlib.Core.Path.{sym, ◌∙◌}
 use native.Mathlib.Omega.{arith}
-use borrow.Author.Rules.{rules}
 use Rattle.encoder.proofs.WordLaws.{words_name, words_text}
 use Rattle.encoder.proofs.words_at.Goals as goal
 

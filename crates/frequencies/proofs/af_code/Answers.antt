@@ -3,7 +3,6 @@ use mathlib.Core.Path.{◌≡◌, sym, ap, ◌∙◌}
 use native.Mathlib.Omega.{arith}
 use Rattle.frequencies.proofs.AfCodes.{count_code, frequency_code_lem, filler_code, high_code, zero-code, none-code}
 use Rattle.frequencies.specs.AfList.{af_code}
-use borrow.Author.Rules.{rules}
 use Rattle.frequencies.proofs.af_code.Goals as goal
 
 pub returns-in-224 : goal.returns-in-224

@@ -1,6 +1,5 @@
 -- `af_word` means what `af_word` says: its two codes, as `af_code` reads them.
 use Rattle.frequencies.specs.AfList.{af_word}
-use borrow.Author.Rules.{rules}
 use Rattle.frequencies.proofs.af_word.Goals as goal
 
 pub returns : goal.returns

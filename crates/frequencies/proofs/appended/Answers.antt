@@ -2,7 +2,6 @@
 use mathlib.Core.Path.{sym, ◌∙◌}
 use native.Mathlib.Omega.{arith}
 use Rattle.frequencies.proofs.AfLists.{append_enough, append_full, append_known, append_new}
-use borrow.Author.Rules.{rules}
 use Rattle.frequencies.proofs.appended.Goals as goal
 
 pub returns-then-list-held : goal.returns-then-list-held

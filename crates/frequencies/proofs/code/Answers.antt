@@ -3,7 +3,6 @@ use mathlib.Core.Path.{sym}
 use native.Mathlib.Omega.{arith}
 use Rattle.frequencies.proofs.FrequencyLaws.{code_below, code_above, code_between, code_steps, code_promised}
 use Rattle.frequencies.specs.declared.CodeAnswer.TheVariants.{NoCode}
-use borrow.Author.Rules.{rules}
 use Rattle.frequencies.proofs.code.Goals as goal
 
 pub returns-then-khz-lt-BASE : goal.returns-then-khz-lt-BASE

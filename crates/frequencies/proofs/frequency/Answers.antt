@@ -1,7 +1,6 @@
 -- `frequency` answers what `frequency_of` says: the code has the frequency that it means to a list.
 use Rattle.frequencies.proofs.FrequencyLaws.{frequency_promised, frequency-told}
 use Rattle.frequencies.specs.declared.FrequencyAnswer.TheVariants.{NoFrequency}
-use borrow.Author.Rules.{rules}
 use Rattle.frequencies.proofs.frequency.Goals as goal
 
 pub returns-in-Count : goal.returns-in-Count

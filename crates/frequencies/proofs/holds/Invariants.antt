@@ -1,13 +1,9 @@
 -- `holds` answers whether the frequency is among those held. The loop's invariant: it is not among the slots passed.
 use Prim.Native.Nat.{◌≤◌, ◌-◌}
 use mathlib.Core.Bool.{false}
-use mathlib.Core.Path.{◌≡◌, refl, sym}
-use native.Mathlib.Omega.{arith}
-use native.Mathlib.Numerals.{add-one}
-use borrow.Author.Rules.{rules}
+use mathlib.Core.Path.{◌≡◌}
 use lib.ListN.{take}
 use Rattle.frequencies.specs.AfList.{is_in}
-use Rattle.frequencies.proofs.AfLists.{is_in-at, is_in_next}
 use Rattle.frequencies.proofs.holds.Given as goal
 
 abbrev pub invariant-loop-i : goal.invariant-loop-i

@@ -1,6 +1,5 @@
 -- `taken` is the list that `taken_of` says: told what the first code means, then what the second means.
 use Rattle.frequencies.specs.AfList.{taken_of}
-use borrow.Author.Rules.{rules}
 use Rattle.frequencies.proofs.taken.Goals as goal
 
 pub returns : goal.returns

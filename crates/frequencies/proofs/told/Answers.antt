@@ -1,7 +1,6 @@
 -- `told` is the list that `told_of` says, by the cases of the meaning.
 use mathlib.Core.Path.{sym, ap, ◌∙◌}
 use Rattle.frequencies.specs.AfList.{told_of}
-use borrow.Author.Rules.{rules}
 use Rattle.frequencies.proofs.told.Goals as goal
 
 pub returns-in-Count : goal.returns-in-Count

@@ -1,6 +1,5 @@
 -- `groups::counts` meets its promise: all four blocks good.
 use Rattle.groups.specs.Group.{counts_of}
-use borrow.Author.Rules.{rules}
 use Rattle.groups.proofs.counts.Goals as goal
 
 pub returns : goal.returns

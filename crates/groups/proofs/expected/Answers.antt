@@ -2,7 +2,6 @@
 use mathlib.Core.Path.{sym}
 use native.Mathlib.Omega.{arith}
 use Rattle.groups.proofs.Headers.{expected_fourth}
-use borrow.Author.Rules.{rules}
 use Rattle.groups.proofs.expected.Goals as goal
 
 pub returns-in-2 : goal.returns-in-2

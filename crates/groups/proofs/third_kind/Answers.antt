@@ -1,5 +1,4 @@
 -- `groups::third_kind` meets its promise: by the version bit of word 2.
-use native.Mathlib.Omega.{arith}
 use borrow.Author.Tests.{eq-eqb, ne_eqb}
 use Rattle.groups.specs.Header.{version_of, third_kind}
 use Rattle.groups.proofs.third_kind.Goals as goal

@@ -2,7 +2,6 @@
 use native.Mathlib.Omega.{arith}
 use borrow.Author.Tests.{le-leb, lt-leb}
 use Rattle.groups.specs.Group.{places, word_of}
-use borrow.Author.Rules.{rules}
 use Rattle.groups.proofs.word.Goals as goal
 
 pub returns-then-place-ge-PLACES : goal.returns-then-place-ge-PLACES

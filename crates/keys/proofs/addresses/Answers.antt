@@ -2,7 +2,6 @@
 -- Assumes nothing.
 use mathlib.Core.Path.{sym, ◌∙◌}
 use Rattle.keys.proofs.WantedLaws.{addresses_wanted, addresses_unwanted}
-use borrow.Author.Rules.{rules}
 use Rattle.keys.proofs.addresses.Goals as goal
 
 pub returns-then-wanted : goal.returns-then-wanted

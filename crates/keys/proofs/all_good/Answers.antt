@@ -1,7 +1,5 @@
 -- `keys::all_good` meets its contract. The loop's invariant: the flag is `all_good` of the bytes passed.
 -- Assumes nothing.
-use Prim.Native.Nat.{◌≤◌, ◌-◌}
-use mathlib.Core.Path.{◌≡◌}
 use borrow.Author.Rules.{rules}
 use Rattle.keys.specs.Good.{all_good}
 use Rattle.keys.proofs.GoodLaws.{all_good_more, all_good_end}

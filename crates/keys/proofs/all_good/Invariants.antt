@@ -2,9 +2,7 @@
 -- Assumes nothing.
 use Prim.Native.Nat.{◌≤◌, ◌-◌}
 use mathlib.Core.Path.{◌≡◌}
-use borrow.Author.Rules.{rules}
 use Rattle.keys.specs.Good.{all_good}
-use Rattle.keys.proofs.GoodLaws.{all_good_more, all_good_end}
 use Rattle.keys.proofs.all_good.Given as goal
 
 abbrev pub invariant-loop-i : goal.invariant-loop-i

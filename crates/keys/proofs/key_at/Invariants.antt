@@ -1,13 +1,11 @@
 -- `keys::key_at` meets its contract. The loop's invariant: the array is the first i bytes of the record, then zeros.
 -- Assumes nothing.
-use Prim.Native.Nat.{ℕ, ◌*◌, ◌-◌, ◌≤◌}
-use mathlib.Core.Path.{◌≡◌, refl}
-use borrow.Author.Rules.{rules}
-use native.Mathlib.Omega.{arith}
+use Prim.Native.Nat.{ℕ, ◌-◌, ◌≤◌}
+use mathlib.Core.Path.{◌≡◌}
 use lib.ListN.{replicate}
 use mathlib.Core.List.{List}
-use Rattle.keys.specs.Sheet.{record_size, key_at}
-use Rattle.keys.proofs.SheetLaws.{copied, copy_more, copy_end}
+use Rattle.keys.specs.Sheet.{record_size}
+use Rattle.keys.proofs.SheetLaws.{copied}
 use Rattle.keys.proofs.key_at.Given as goal
 
 -- the array where the loop begins

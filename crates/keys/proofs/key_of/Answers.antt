@@ -1,12 +1,8 @@
 -- `keys::key_of` meets its contract: at each `return` the two tests say which case of `key_of` holds, and the number
 -- beside it follows from the answer.
 -- Assumes nothing.
-use Prim.Native.Nat.{ℕ}
 use mathlib.Core.Path.{◌≡◌, sym, ap, ◌∙◌}
-use mathlib.Core.List.{List}
 use mathlib.Core.Bool.{true, false}
-use borrow.Author.Rules.{rules}
-use borrow.Author.Tests.{not-true, not-false}
 use Rattle.keys.specs.declared.Asked.{Asked}
 use Rattle.keys.specs.declared.KeyAnswer.TheVariants.{Good, NoKey, BadKey}
 use Rattle.keys.specs.Sheet.{no_key, key_at}

@@ -7,7 +7,6 @@ use native.Mathlib.Omega.{arith}
 use lib.ListN.{get_or}
 use Rattle.keys.specs.Fields.{name_place, pair_of}
 use Rattle.keys.proofs.FieldLaws.{name_pair_at, name_pair_past}
-use borrow.Author.Rules.{rules}
 use Rattle.keys.proofs.name_pair.Goals as goal
 
 pub returns-then-a-ge-NAME_PAIRS : goal.returns-then-a-ge-NAME_PAIRS

@@ -2,7 +2,6 @@
 -- Assumes nothing.
 use mathlib.Core.Path.{refl}
 use Rattle.keys.specs.Fields.{pair_of}
-use borrow.Author.Rules.{rules}
 use Rattle.keys.proofs.pair.Goals as goal
 
 pub returns : goal.returns

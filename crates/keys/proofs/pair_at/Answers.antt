@@ -1,6 +1,5 @@
 -- `keys::pair_at` meets its contract, by that of `pair`.
 -- Assumes nothing.
-use borrow.Author.Rules.{rules}
 use Rattle.keys.proofs.pair_at.Goals as goal
 
 pub returns : goal.returns

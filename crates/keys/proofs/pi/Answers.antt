@@ -1,7 +1,6 @@
 -- `keys::pi` meets its contract, by that of `pair_at`.
 -- Assumes nothing.
 use Rattle.keys.specs.Fields.{pi_of}
-use borrow.Author.Rules.{rules}
 use Rattle.keys.proofs.pi.Goals as goal
 
 pub returns : goal.returns

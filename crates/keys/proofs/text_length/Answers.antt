@@ -2,7 +2,6 @@
 -- Assumes nothing.
 use mathlib.Core.Path.{sym, ◌∙◌}
 use Rattle.keys.proofs.WantedLaws.{length_wanted, length_unwanted}
-use borrow.Author.Rules.{rules}
 use Rattle.keys.proofs.text_length.Goals as goal
 
 pub returns-then-wanted : goal.returns-then-wanted

@@ -7,7 +7,6 @@ use native.Mathlib.Omega.{arith}
 use lib.ListN.{get_or}
 use Rattle.keys.specs.Fields.{text_place, pair_of}
 use Rattle.keys.proofs.FieldLaws.{text_pair_at, text_pair_past}
-use borrow.Author.Rules.{rules}
 use Rattle.keys.proofs.text_pair.Goals as goal
 
 pub returns-then-a-ge-TEXT_PAIRS : goal.returns-then-a-ge-TEXT_PAIRS

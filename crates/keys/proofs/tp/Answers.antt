@@ -2,7 +2,6 @@
 -- Assumes nothing.
 use mathlib.Core.Path.{refl}
 use Rattle.keys.specs.Fields.{tp_of}
-use borrow.Author.Rules.{rules}
 use Rattle.keys.proofs.tp.Goals as goal
 
 pub returns : goal.returns

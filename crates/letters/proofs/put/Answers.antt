@@ -1,7 +1,6 @@
 -- `letters::put` meets its promise: by whether there is room.
 use native.Mathlib.Omega.{arith}
 use Rattle.letters.proofs.Puts.{put-none, wrote_put}
-use borrow.Author.Rules.{rules}
 use Rattle.letters.proofs.put.Goals as goal
 
 pub returns-then-out-at : goal.returns-then-out-at

@@ -2,7 +2,6 @@
 use mathlib.Core.List.{[], ◌∷◌}
 use native.Mathlib.Omega.{arith}
 use Rattle.letters.proofs.Puts.{put-none, wrote_put}
-use borrow.Author.Rules.{rules}
 use Rattle.letters.proofs.put_byte.Goals as goal
 
 pub returns-then-at-out : goal.returns-then-at-out

@@ -3,7 +3,6 @@ use native.Mathlib.Omega.{arith}
 use Rattle.letters.proofs.Sizes.{character_most}
 use Rattle.letters.proofs.Handing.{count_front}
 use Rattle.letters.proofs.Puts.{put_front}
-use borrow.Author.Rules.{rules}
 use Rattle.letters.proofs.put_character.Goals as goal
 
 pub slice_bounds-own-end : goal.slice_bounds-own-end

@@ -1,7 +1,6 @@
 -- `letters::put_number` meets its promise: the digits are written into a buffer of our own, and put.
 use Rattle.letters.proofs.Handing.{count_front}
 use Rattle.letters.proofs.Puts.{put_front}
-use borrow.Author.Rules.{rules}
 use Rattle.letters.proofs.put_number.Goals as goal
 
 pub slice_bounds-put-end : goal.slice_bounds-put-end

@@ -1,7 +1,6 @@
 -- `letters::tell` meets its promise: by whether there is room.
 use native.Mathlib.Omega.{arith}
 use Rattle.letters.proofs.Handing.{tells_short, tells_written}
-use borrow.Author.Rules.{rules}
 use Rattle.letters.proofs.tell.Goals as goal
 
 pub returns-then-out-text : goal.returns-then-out-text

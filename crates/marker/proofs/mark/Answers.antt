@@ -1,6 +1,5 @@
 -- `marker::mark` meets its promise: each answer to the question for a key has its line of the table.
 use Rattle.marker.proofs.MarkLaws.{mark_no_key, mark_bad_key, mark_good_key}
-use borrow.Author.Rules.{rules}
 use Rattle.marker.proofs.mark.Goals as goal
 
 pub returns-in-NoKey : goal.returns-in-NoKey

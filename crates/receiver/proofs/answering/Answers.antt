@@ -1,5 +1,4 @@
 -- `receiver::answering` meets its promise: the empty group is what `groups` says.
-use borrow.Author.Rules.{rules}
 use Rattle.receiver.proofs.answering.Goals as goal
 
 pub returns : goal.returns

@@ -2,7 +2,6 @@
 use Rattle.receiver.specs.Rules.{run_blocks}
 use borrow.Author.Tests.{lt-ltb, le-ltb}
 use native.Mathlib.Omega.{arith}
-use borrow.Author.Rules.{rules}
 use Rattle.receiver.proofs.bad_with.Goals as goal
 
 pub returns-then-bad-lt-RUN_BLOCKS : goal.returns-then-bad-lt-RUN_BLOCKS

@@ -4,7 +4,6 @@ use Rattle.receiver.specs.Strides.{count_after_of}
 use Rattle.receiver.specs.Rules.{pair_bits}
 use borrow.Author.Tests.{lt-ltb, le-ltb}
 use native.Mathlib.Omega.{arith}
-use borrow.Author.Rules.{rules}
 use Rattle.receiver.proofs.count_after.Goals as goal
 
 pub returns-then-count : goal.returns-then-count

@@ -4,7 +4,6 @@ use Rattle.receiver.specs.Machine.{counted_of}
 use Rattle.receiver.specs.Rules.{run_blocks}
 use borrow.Author.Tests.{lt-ltb, le-ltb}
 use native.Mathlib.Omega.{arith}
-use borrow.Author.Rules.{rules}
 use Rattle.receiver.proofs.counted.Goals as goal
 
 pub returns-then-run : goal.returns-then-run

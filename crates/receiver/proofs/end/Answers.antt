@@ -1,7 +1,6 @@
 -- `receiver::end` meets its promise: the calls, from the last to the first, and the tables by the fourth place.
 use Rattle.receiver.proofs.Ends.{completes_fourth, held_fourth, hand_fourth}
 use Rattle.receiver.specs.Machine.{ended_of}
-use borrow.Author.Rules.{rules}
 use Rattle.receiver.proofs.end.Goals as goal
 
 pub returns : goal.returns

@@ -4,7 +4,6 @@ use Rattle.receiver.specs.Machine.{follow_of}
 use Rattle.blocks.specs.Damage.{block_bits}
 use borrow.Author.Tests.{lt-ltb, le-ltb}
 use native.Mathlib.Omega.{arith}
-use borrow.Author.Rules.{rules}
 use Rattle.receiver.proofs.follow.Goals as goal
 
 pub returns-then-count : goal.returns-then-count

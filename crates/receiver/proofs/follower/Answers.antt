@@ -1,5 +1,4 @@
 -- `receiver::follower` meets its promise: kind by kind.
-use borrow.Author.Rules.{rules}
 use Rattle.receiver.proofs.follower.Goals as goal
 
 pub returns-in-B : goal.returns-in-B

@@ -1,7 +1,6 @@
 -- `receiver::hunt` meets its promise: a hunting bit from its parts.
 use Rattle.receiver.proofs.Quiet.{shift-limit, hunt_parts}
 use mathlib.Core.Path.{sym}
-use borrow.Author.Rules.{rules}
 use Rattle.receiver.proofs.hunt.Goals as goal
 
 pub lock_after-lock-requires : goal.lock_after-lock-requires

@@ -1,5 +1,4 @@
 -- `receiver::hunted` meets its promise: by whether two blocks lock.
-use borrow.Author.Rules.{rules}
 use Rattle.receiver.proofs.hunted.Goals as goal
 
 pub returns-in-At : goal.returns-in-At

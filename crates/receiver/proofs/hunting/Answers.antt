@@ -1,5 +1,4 @@
 -- `receiver::hunting` meets its promise: the empty group is what `groups` says.
-use borrow.Author.Rules.{rules}
 use Rattle.receiver.proofs.hunting.Goals as goal
 
 pub returns : goal.returns

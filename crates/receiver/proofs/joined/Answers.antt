@@ -1,5 +1,4 @@
 -- `receiver::joined` meets its promise: by how the newer block was judged.
-use borrow.Author.Rules.{rules}
 use Rattle.receiver.proofs.joined.Goals as goal
 
 pub returns-in-Good : goal.returns-in-Good

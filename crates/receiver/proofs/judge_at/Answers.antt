@@ -1,5 +1,4 @@
 -- `receiver::judge_at` meets its promise: place by place.
-use borrow.Author.Rules.{rules}
 use Rattle.receiver.proofs.judge_at.Goals as goal
 
 pub returns-in-First : goal.returns-in-First

@@ -1,6 +1,5 @@
 -- `receiver::locked` meets its promise: the state after a lock from its parts.
 use Rattle.receiver.proofs.Ends.{locked_parts}
-use borrow.Author.Rules.{rules}
 use Rattle.receiver.proofs.locked.Goals as goal
 
 pub returns : goal.returns

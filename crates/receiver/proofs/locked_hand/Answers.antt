@@ -1,5 +1,4 @@
 -- `receiver::locked_hand` meets its promise: by the kind of the older block.
-use borrow.Author.Rules.{rules}
 use Rattle.receiver.proofs.locked_hand.Goals as goal
 
 pub returns-in-A : goal.returns-in-A

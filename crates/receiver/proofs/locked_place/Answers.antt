@@ -1,5 +1,4 @@
 -- `receiver::locked_place` meets its promise: by the kind of the older block.
-use borrow.Author.Rules.{rules}
 use Rattle.receiver.proofs.locked_place.Goals as goal
 
 pub returns-in-A : goal.returns-in-A

@@ -1,5 +1,4 @@
 -- `receiver::next_after` meets its promise: by whether lock is lost.
-use borrow.Author.Rules.{rules}
 use Rattle.receiver.proofs.next_after.Goals as goal
 
 pub returns-then-run : goal.returns-then-run

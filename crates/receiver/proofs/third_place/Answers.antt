@@ -1,5 +1,4 @@
 -- `receiver::third_place` meets its promise: by how the second block was judged.
-use borrow.Author.Rules.{rules}
 use Rattle.receiver.proofs.third_place.Goals as goal
 
 pub returns-in-Good : goal.returns-in-Good

@@ -1,6 +1,5 @@
 -- `receiver::try_lock` meets its promise: by what the older block is found to be.
 use Rattle.receiver.specs.Rules.{lock_of}
-use borrow.Author.Rules.{rules}
 use Rattle.receiver.proofs.try_lock.Goals as goal
 
 pub returns-in-Block : goal.returns-in-Block

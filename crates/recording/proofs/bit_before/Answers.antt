@@ -1,6 +1,6 @@
 -- `recording::bit_before` meets its promise: sums that go round add up to the whole sum, gone round once.
 use Rattle.recording.proofs.Rounds.{round-before}
-use Rattle.std.proofs.Common.{arith, rules}
+use Rattle.std.proofs.Common.{arith}
 use Rattle.recording.proofs.bit_before.Goals as goal
 
 pub returns : goal.returns

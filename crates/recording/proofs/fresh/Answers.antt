@@ -1,5 +1,4 @@
 -- `recording::fresh` meets its promise: each part is the fresh one.
-use Rattle.std.proofs.Common.{rules}
 use Rattle.recording.proofs.fresh.Goals as goal
 
 pub returns : goal.returns

@@ -1,5 +1,5 @@
 -- `recording::group_line` meets its promise: by whether the summary alone is asked for, and by the answer.
-use Rattle.std.proofs.Common.{arith, rules}
+use Rattle.std.proofs.Common.{arith}
 use Rattle.letters.proofs.Buffers.{wrote_none}
 use Rattle.recording.specs.Lines.{group_line}
 use Rattle.recording.proofs.group_line.Goals as goal

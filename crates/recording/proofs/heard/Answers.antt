@@ -1,5 +1,4 @@
 -- `recording::heard` meets its promise: each part is what its function promises.
-use Rattle.std.proofs.Common.{rules}
 use Rattle.recording.proofs.heard.Goals as goal
 
 pub returns : goal.returns

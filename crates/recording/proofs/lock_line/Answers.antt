@@ -1,5 +1,5 @@
 -- `recording::lock_line` meets its promise: by whether the summary alone is asked for, and by the answer.
-use Rattle.std.proofs.Common.{arith, rules}
+use Rattle.std.proofs.Common.{arith}
 use Rattle.letters.proofs.Buffers.{wrote_none}
 use Rattle.recording.specs.Lines.{lock_line_of}
 use Rattle.recording.proofs.lock_line.Goals as goal

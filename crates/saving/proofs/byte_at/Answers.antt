@@ -2,7 +2,6 @@
 use lib.ListN.{get_or-eq_default}
 use mathlib.Core.Path.{refl, sym}
 use native.Mathlib.Omega.{arith}
-use borrow.Author.Rules.{rules}
 use Rattle.saving.proofs.byte_at.Goals as goal
 
 -- src/lib.rt:113:1

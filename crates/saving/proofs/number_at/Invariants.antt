@@ -1,12 +1,9 @@
 -- `saving::number_at` meets its promise. Before byte i the number is what the bytes so far spell.
-use Rattle.saving.proofs.Saves.{spell_next, spell_room}
 use Rattle.receiver.specs.Feeding.{byte_bits}
 use Rattle.bits.specs.Bytes.{bit_at}
 use Rattle.bits.specs.Spell.{spell}
 use Prim.Native.Nat.{◌*◌, ◌-◌, ◌≤◌}
-use mathlib.Core.Path.{◌≡◌, refl, sym, ◌∙◌}
-use borrow.Author.Rules.{rules}
-use native.Mathlib.Omega.{arith}
+use mathlib.Core.Path.{◌≡◌}
 use Rattle.saving.proofs.number_at.Given as goal
 
 abbrev pub invariant-loop-i : goal.invariant-loop-i

@@ -1,6 +1,5 @@
 -- `saving::restore` meets its promise: field by field.
 use Rattle.saving.specs.Saving.{restore_of}
-use borrow.Author.Rules.{rules}
 use Rattle.saving.proofs.restore.Goals as goal
 
 -- src/lib.rt:177:5

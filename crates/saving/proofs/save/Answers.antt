@@ -1,9 +1,7 @@
 -- `saving::save` meets its promise. Before byte i the buffer has the first i bytes of the state, and then its own.
 use Rattle.saving.proofs.Saves.{state-length, copy_next, copied}
 use Rattle.saving.specs.Saving.{state_length, save_of, buffer_of}
-use Prim.Native.Nat.{◌-◌, ◌≤◌}
-use lib.ListN.{length, take, drop, length-set}
-use mathlib.Core.List.{◌++◌}
+use lib.ListN.{length, length-set}
 use mathlib.Core.Path.{◌≡◌, refl, ◌∙◌}
 use mathlib.Core.Bool.{false}
 use lib.Dec.{ltb}

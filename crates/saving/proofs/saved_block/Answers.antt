@@ -7,7 +7,6 @@ use Rattle.bits.specs.Bytes.{bit_at}
 use Prim.Native.Nat.{◌+◌, ◌*◌}
 use borrow.Author.Tests.{lt-ltb, le-ltb}
 use native.Mathlib.Omega.{arith}
-use borrow.Author.Rules.{rules}
 use Rattle.saving.proofs.saved_block.Goals as goal
 
 -- src/lib.rt:139:22

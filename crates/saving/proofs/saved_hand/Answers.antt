@@ -1,5 +1,4 @@
 -- `saving::saved_hand` meets its promise: the calls, from the last to the first.
-use borrow.Author.Rules.{rules}
 use Rattle.saving.proofs.saved_hand.Goals as goal
 
 -- src/lib.rt:146:1

@@ -1,5 +1,4 @@
 -- `saving::state_bytes` meets its promise: byte by byte.
-use borrow.Author.Rules.{rules}
 use Rattle.saving.proofs.Saves.{state_bytes_are}
 use Rattle.saving.proofs.state_bytes.Goals as goal
 

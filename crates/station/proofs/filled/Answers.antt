@@ -1,6 +1,5 @@
 -- `station::filled` meets its promise: part by part.
 use Rattle.station.specs.Update.{filled_of}
-use borrow.Author.Rules.{rules}
 use Rattle.station.proofs.filled.Goals as goal
 
 pub returns : goal.returns

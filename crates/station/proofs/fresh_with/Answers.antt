@@ -1,5 +1,4 @@
 -- `station::fresh_with` meets its promise: part by part.
-use borrow.Author.Rules.{rules}
 use Rattle.station.proofs.fresh_with.Goals as goal
 
 pub returns : goal.returns

@@ -1,7 +1,6 @@
 -- `station::held_for` meets its promise: by whether the PI is held.
 use mathlib.Core.Path.{sym, ◌∙◌}
 use Rattle.station.proofs.Holding.{held_as, held_anew}
-use borrow.Author.Rules.{rules}
 use Rattle.station.proofs.held_for.Goals as goal
 
 pub returns-then-holds_pi : goal.returns-then-holds_pi

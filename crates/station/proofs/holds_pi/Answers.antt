@@ -1,8 +1,7 @@
 -- `station::holds_pi` meets its promise: by the cases of what is held.
-use mathlib.Core.Path.{sym, ap, ◌∙◌}
+use mathlib.Core.Path.{sym, ap}
 use Rattle.station.specs.declared.HeldPi.{HeldPi}
 use Rattle.station.specs.Update.{holds_pi}
-use borrow.Author.Rules.{rules}
 use Rattle.station.proofs.holds_pi.Goals as goal
 
 pub returns-in-Pi : goal.returns-in-Pi

@@ -1,10 +1,8 @@
 -- `station::updated` meets its promise: by whether the group counts.
 use mathlib.Core.Path.{sym, ap, ◌∙◌}
-use borrow.Author.Tests.{not-true, not-false}
 use Rattle.station.specs.declared.Record.{Record}
 use Rattle.station.specs.Update.{held_for, filled_of}
 use Rattle.station.proofs.Holding.{updated_counted, updated_kept}
-use borrow.Author.Rules.{rules}
 use Rattle.station.proofs.updated.Goals as goal
 
 pub returns-then-not-counts : goal.returns-then-not-counts

@@ -1,5 +1,4 @@
 -- `telling::count_lines` meets its promise: the lines of the counts, as one line of pieces.
-use borrow.Author.Rules.{rules}
 use Rattle.telling.proofs.count_lines.Goals as goal
 
 pub returns : goal.returns

@@ -1,5 +1,4 @@
 -- `telling::lock` meets its promise: the word and the number, as a line.
-use borrow.Author.Rules.{rules}
 use Rattle.telling.proofs.lock.Goals as goal
 
 pub returns : goal.returns

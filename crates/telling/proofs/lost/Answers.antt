@@ -1,5 +1,4 @@
 -- `telling::lost` meets its promise: the word and the number, as a line.
-use borrow.Author.Rules.{rules}
 use Rattle.telling.proofs.lost.Goals as goal
 
 pub returns : goal.returns

@@ -3,7 +3,6 @@ use mathlib.Core.Path.{refl}
 use native.Mathlib.Omega.{arith}
 use Rattle.letters.proofs.Handing.{count_front, tells_within}
 use Rattle.telling.specs.Rooms.{station_room}
-use borrow.Author.Rules.{rules}
 use Rattle.telling.proofs.record_lines.Goals as goal
 
 pub slice_bounds-tell-end : goal.slice_bounds-tell-end

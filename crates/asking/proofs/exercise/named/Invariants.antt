@@ -1,13 +1,9 @@
 -- `asking::exercise::named` meets its promise: before each turn the rest of the text spells the exercise, behind what
 -- was read.
 use Prim.Native.Nat.{◌-◌, ◌≤◌}
-use mathlib.Core.Path.{◌≡◌, sym, ◌∙◌}
-use native.Mathlib.Omega.{arith}
-use borrow.Author.Rules.{rules}
-use borrow.Author.Tests.{not-true, not-false}
+use mathlib.Core.Path.{◌≡◌}
 use lib.ListN.{length, drop}
 use Rattle.asking.specs.Exercise.{last_exercise, named_from, named_of}
-use Rattle.asking.proofs.Digits.{first_named, none_named, other_named, over-named, next_named, last_named}
 use Rattle.asking.proofs.exercise.named.Given as goal
 
 abbrev pub invariant-loop-i : goal.invariant-loop-i

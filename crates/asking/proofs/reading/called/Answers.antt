@@ -3,7 +3,6 @@ use native.Mathlib.Omega.{arith}
 use mir.Syntax.{w64}
 use mir.ValLaws.{to_z-of_z}
 use Rattle.asking.proofs.Calls.{call_failed, call_ended, call_more, not-below}
-use borrow.Author.Rules.{rules}
 use Rattle.asking.proofs.reading.called.Goals as goal
 
 pub returns-then-got-lt0 : goal.returns-then-got-lt0

@@ -1,5 +1,4 @@
 -- `asking::reading::goes_on` meets its promise: by what came before.
-use borrow.Author.Rules.{rules}
 use Rattle.asking.proofs.reading.goes_on.Goals as goal
 
 pub returns-in-GoOn : goal.returns-in-GoOn

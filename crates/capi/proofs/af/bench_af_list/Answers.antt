@@ -2,7 +2,6 @@
 use Rattle.capi.specs.Frequencies.{list_code}
 use Rattle.frequencies.specs.declared.AfList.{AfList}
 use mathlib.Core.Path.{ap, ◌∙◌}
-use borrow.Author.Rules.{rules}
 use Rattle.capi.proofs.af.bench_af_list.Goals as goal
 
 pub returns : goal.returns

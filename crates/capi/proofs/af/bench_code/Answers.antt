@@ -1,7 +1,6 @@
 -- `bench_code` is the number of what `code` answers.
 use Rattle.capi.specs.Frequencies.{code_code}
 use mathlib.Core.Path.{ap, ◌∙◌}
-use borrow.Author.Rules.{rules}
 use Rattle.capi.proofs.af.bench_code.Goals as goal
 
 pub returns : goal.returns

@@ -1,7 +1,6 @@
 -- `bench_frequency` is the number of what `frequency` answers.
 use Rattle.capi.specs.Frequencies.{frequency_code}
 use mathlib.Core.Path.{ap, ◌∙◌}
-use borrow.Author.Rules.{rules}
 use Rattle.capi.proofs.af.bench_frequency.Goals as goal
 
 pub returns : goal.returns

@@ -1,5 +1,4 @@
 -- `code_code` gives the number that `code_code` says, answer by answer.
-use borrow.Author.Rules.{rules}
 use Rattle.capi.proofs.af.code_code.Goals as goal
 
 pub returns-in-Code : goal.returns-in-Code

@@ -1,7 +1,6 @@
 -- `list_code` gives the number that `list_code` says.
 use borrow.Author.Tests.{ne_eqb}
 use mathlib.Core.Path.{◌∙◌}
-use borrow.Author.Rules.{rules}
 use Rattle.capi.proofs.af.list_code.Goals as goal
 
 pub returns-in-0 : goal.returns-in-0

@@ -1,11 +1,8 @@
 -- `list_of` is the list that `list_in` says: before turn i it is the list after i words.
-use Rattle.capi.specs.Frequencies.{list_after, list_in}
-use borrow.Author.Rules.{rules}
+use Rattle.capi.specs.Frequencies.{list_after}
 use lib.ListN.{length}
-use native.Mathlib.Numerals.{add-one}
-use native.Mathlib.Omega.{arith}
 use Prim.Native.Nat.{◌≤◌, ◌-◌, ◌/◌}
-use mathlib.Core.Path.{◌≡◌, refl, ap, ◌∙◌}
+use mathlib.Core.Path.{◌≡◌}
 use Rattle.capi.proofs.af.list_of.Given as goal
 
 abbrev pub invariant-loop-i : goal.invariant-loop-i

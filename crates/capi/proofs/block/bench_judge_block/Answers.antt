@@ -2,7 +2,6 @@
 use Rattle.capi.specs.Blocks.{judged_code}
 use Rattle.blocks.specs.Block.{judge_of}
 use mathlib.Core.Path.{ap, ◌∙◌}
-use borrow.Author.Rules.{rules}
 use Rattle.capi.proofs.block.bench_judge_block.Goals as goal
 
 pub returns : goal.returns

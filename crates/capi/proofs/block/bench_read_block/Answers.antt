@@ -1,7 +1,6 @@
 -- `bench_read_block` is the number of what `read` answers.
 use Rattle.capi.specs.Blocks.{found_code}
 use mathlib.Core.Path.{ap, ◌∙◌}
-use borrow.Author.Rules.{rules}
 use Rattle.capi.proofs.block.bench_read_block.Goals as goal
 
 pub returns : goal.returns

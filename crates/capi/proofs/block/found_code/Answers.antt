@@ -1,5 +1,4 @@
 -- `found_code` gives the number that `found_code` says, answer by answer.
-use borrow.Author.Rules.{rules}
 use Rattle.capi.proofs.block.found_code.Goals as goal
 
 pub returns-in-Block : goal.returns-in-Block

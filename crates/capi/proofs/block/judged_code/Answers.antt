@@ -1,5 +1,4 @@
 -- `judged_code` gives the number that `judged_code` says, answer by answer.
-use borrow.Author.Rules.{rules}
 use Rattle.capi.proofs.block.judged_code.Goals as goal
 
 pub returns-in-Good : goal.returns-in-Good

@@ -1,7 +1,6 @@
 -- `bench_put_group` does what `put_at` does, and gives its number.
 use Rattle.groups.specs.Written.{put_number}
 use mathlib.Core.Path.{ap, ◌∙◌}
-use borrow.Author.Rules.{rules}
 use Rattle.capi.proofs.group.bench_put_group.Goals as goal
 
 pub returns : goal.returns

@@ -2,7 +2,6 @@
 use Rattle.capi.specs.Groups.{word_code}
 use Rattle.groups.specs.declared.Group.{Group}
 use mathlib.Core.Path.{ap, ◌∙◌}
-use borrow.Author.Rules.{rules}
 use Rattle.capi.proofs.group.bench_read_word.Goals as goal
 
 pub returns : goal.returns

@@ -4,7 +4,6 @@ use Rattle.groups.specs.Content.{carried_of}
 use Rattle.groups.specs.Group.{word_of}
 use Rattle.groups.specs.declared.Group.{Group}
 use mathlib.Core.Path.{ap, ◌∙◌}
-use borrow.Author.Rules.{rules}
 use Rattle.capi.proofs.group.bench_switches.Goals as goal
 
 pub returns : goal.returns

@@ -1,5 +1,4 @@
 -- `carried_code` gives the number that `carried_code` says.
-use borrow.Author.Rules.{rules}
 use Rattle.capi.proofs.group.carried_code.Goals as goal
 
 pub returns-in-Carries : goal.returns-in-Carries

@@ -1,7 +1,6 @@
 -- `word_code` gives the number that `word_code` says, by whether the word was good.
 use Rattle.capi.specs.Groups.{word_code}
 use mathlib.Core.Path.{sym, ◌∙◌}
-use borrow.Author.Rules.{rules}
 use Rattle.capi.proofs.group.word_code.Goals as goal
 
 pub returns-then-good : goal.returns-then-good

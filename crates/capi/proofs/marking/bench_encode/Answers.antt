@@ -1,7 +1,6 @@
 -- `bench_encode` does what `encode` does, and gives its number.
 use Rattle.capi.specs.Marking.{encoded_code}
 use mathlib.Core.Path.{ap, ◌∙◌}
-use borrow.Author.Rules.{rules}
 use Rattle.capi.proofs.marking.bench_encode.Goals as goal
 
 pub returns : goal.returns

@@ -2,7 +2,6 @@
 use Rattle.capi.specs.Times.{held_of, local_code}
 use Rattle.clock.specs.Local.{local_date_of}
 use mathlib.Core.Path.{ap, ◌∙◌}
-use borrow.Author.Rules.{rules}
 use Rattle.capi.proofs.times.bench_local_date.Goals as goal
 
 pub returns : goal.returns

@@ -1,7 +1,6 @@
 -- `bench_read_clock` is the number of what `read` answers.
 use Rattle.capi.specs.Times.{held_code}
 use mathlib.Core.Path.{ap, ◌∙◌}
-use borrow.Author.Rules.{rules}
 use Rattle.capi.proofs.times.bench_read_clock.Goals as goal
 
 pub returns : goal.returns

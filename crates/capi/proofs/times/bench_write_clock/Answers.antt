@@ -2,7 +2,6 @@
 use Rattle.capi.specs.Times.{written_code}
 use Rattle.clock.specs.Words.{write_of}
 use mathlib.Core.Path.{ap, ◌∙◌}
-use borrow.Author.Rules.{rules}
 use Rattle.capi.proofs.times.bench_write_clock.Goals as goal
 
 pub returns : goal.returns

@@ -1,5 +1,4 @@
 -- `held_code` gives the number that `held_code` says.
-use borrow.Author.Rules.{rules}
 use Rattle.capi.proofs.times.held_code.Goals as goal
 
 pub returns-in-At : goal.returns-in-At

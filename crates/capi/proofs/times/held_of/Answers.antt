@@ -1,5 +1,4 @@
 -- `held_of` is the clock, where one is held.
-use borrow.Author.Rules.{rules}
 use Rattle.capi.proofs.times.held_of.Goals as goal
 
 pub returns-then-held : goal.returns-then-held

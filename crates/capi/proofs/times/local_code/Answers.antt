@@ -1,5 +1,4 @@
 -- `local_code` gives the number that `local_code` says.
-use borrow.Author.Rules.{rules}
 use Rattle.capi.proofs.times.local_code.Goals as goal
 
 pub returns-in-Date : goal.returns-in-Date

@@ -1,5 +1,4 @@
 -- `written_code` gives the number that `written_code` says.
-use borrow.Author.Rules.{rules}
 use Rattle.capi.proofs.times.written_code.Goals as goal
 
 pub returns-in-Words : goal.returns-in-Words

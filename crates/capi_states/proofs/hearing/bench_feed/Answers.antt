@@ -4,7 +4,6 @@ use Rattle.capi_states.proofs.Rooms.{told_room, feed_short, feed_done}
 use Rattle.receiver.specs.Feeding.{advance_of}
 use Rattle.receiver.specs.declared.Receiver.{Receiver}
 use mathlib.Core.Path.{sym, ap, ◌∙◌}
-use borrow.Author.Rules.{rules}
 use Rattle.capi_states.proofs.hearing.bench_feed.Goals as goal
 
 pub returns-then-no_room : goal.returns-then-no_room

@@ -2,7 +2,6 @@
 use Rattle.saving.specs.Saving.{saved_number, buffer_of}
 use Rattle.receiver.specs.declared.Receiver.{Receiver}
 use mathlib.Core.Path.{ap, ◌∙◌}
-use borrow.Author.Rules.{rules}
 use Rattle.capi_states.proofs.hearing.bench_fresh.Goals as goal
 
 pub returns : goal.returns

@@ -5,7 +5,6 @@ use Rattle.receiver.specs.Machine.{step_of}
 use Rattle.receiver.specs.declared.Receiver.{Receiver}
 use native.Mathlib.Omega.{arith}
 use mathlib.Core.Path.{sym, ap, ◌∙◌}
-use borrow.Author.Rules.{rules}
 use Rattle.capi_states.proofs.hearing.bench_take_bit.Goals as goal
 
 pub returns-then-no_room : goal.returns-then-no_room

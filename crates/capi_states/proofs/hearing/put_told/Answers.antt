@@ -2,10 +2,8 @@
 use Rattle.capi_states.specs.Hearing.{told_size, told_of}
 use Rattle.saving.proofs.Saves.{copy_next, copied}
 use borrow.Author.Rules.{rules}
-use lib.ListN.{length, take, drop, length-set}
+use lib.ListN.{length-set}
 use native.Mathlib.Omega.{arith}
-use Prim.Native.Nat.{◌≤◌, ◌-◌}
-use mathlib.Core.List.{◌++◌}
 use mathlib.Core.Path.{◌≡◌, refl, ◌∙◌}
 use Rattle.capi_states.proofs.hearing.put_told.Goals as goal
 

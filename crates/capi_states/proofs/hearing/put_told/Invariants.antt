@@ -1,12 +1,9 @@
 -- `put_told` copies what is told: before byte i the buffer has the first i bytes of it, and then its own.
-use Rattle.capi_states.specs.Hearing.{told_size, told_of}
-use Rattle.saving.proofs.Saves.{copy_next, copied}
-use borrow.Author.Rules.{rules}
-use lib.ListN.{length, take, drop, length-set}
-use native.Mathlib.Omega.{arith}
+use Rattle.capi_states.specs.Hearing.{told_size}
+use lib.ListN.{length, take, drop}
 use Prim.Native.Nat.{◌≤◌, ◌-◌}
 use mathlib.Core.List.{◌++◌}
-use mathlib.Core.Path.{◌≡◌, refl, ◌∙◌}
+use mathlib.Core.Path.{◌≡◌}
 use Rattle.capi_states.proofs.hearing.put_told.Given as goal
 
 abbrev pub invariant-loop-i : goal.invariant-loop-i

@@ -1,6 +1,5 @@
 -- `told_bytes` is what `told_of` says, byte by byte.
 use Rattle.capi_states.specs.Hearing.{told_of}
-use borrow.Author.Rules.{rules}
 use Rattle.capi_states.proofs.hearing.told_bytes.Goals as goal
 
 pub returns : goal.returns

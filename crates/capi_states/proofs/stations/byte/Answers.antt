@@ -1,5 +1,4 @@
 -- `byte` is a byte of the number that `number` gives.
-use borrow.Author.Rules.{rules}
 use Rattle.capi_states.proofs.stations.byte.Goals as goal
 
 pub returns : goal.returns

@@ -1,5 +1,4 @@
 -- `flag_code` gives the number that `flag_code` says.
-use borrow.Author.Rules.{rules}
 use Rattle.capi_states.proofs.stations.flag_code.Goals as goal
 
 pub returns-in-Flag : goal.returns-in-Flag

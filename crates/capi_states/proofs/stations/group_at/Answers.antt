@@ -1,6 +1,5 @@
 -- `group_at` is the group that `group_at` says, block by block.
 use Rattle.capi_states.specs.Stations.{group_at}
-use borrow.Author.Rules.{rules}
 use Rattle.capi_states.proofs.stations.group_at.Goals as goal
 
 pub returns : goal.returns

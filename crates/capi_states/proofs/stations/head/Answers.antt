@@ -1,7 +1,6 @@
 -- `head` gives the number that `head_of` says, number by number.
 use borrow.Author.Tests.{ne_eqb}
 use mathlib.Core.Path.{◌∙◌}
-use borrow.Author.Rules.{rules}
 use Rattle.capi_states.proofs.stations.head.Goals as goal
 
 pub returns-in-0 : goal.returns-in-0

@@ -3,7 +3,6 @@ use Rattle.capi_states.specs.Stations.{number_of}
 use borrow.Author.Tests.{lt-ltb, le-ltb}
 use native.Mathlib.Omega.{arith}
 use mathlib.Core.Path.{◌∙◌}
-use borrow.Author.Rules.{rules}
 use Rattle.capi_states.proofs.stations.number.Goals as goal
 
 pub returns-then-n-lt-NAME_AT : goal.returns-then-n-lt-NAME_AT

@@ -1,5 +1,4 @@
 -- `pi_code` gives the number that `pi_code` says.
-use borrow.Author.Rules.{rules}
 use Rattle.capi_states.proofs.stations.pi_code.Goals as goal
 
 pub returns-in-Pi : goal.returns-in-Pi

@@ -3,11 +3,9 @@ use Rattle.capi_states.proofs.Buffers.{fill_next, length-bytes_to}
 use Rattle.capi_states.specs.Stations.{record_size, byte_of, bytes_to, record_buffer}
 use borrow.Author.Tests.{le-ltb}
 use borrow.Author.Rules.{rules}
-use lib.ListN.{length, drop, length-set}
+use lib.ListN.{length, length-set}
 use native.Mathlib.Numerals.{add-one}
 use native.Mathlib.Omega.{arith}
-use Prim.Native.Nat.{◌≤◌, ◌-◌}
-use mathlib.Core.List.{◌++◌}
 use mathlib.Core.Path.{◌≡◌, refl, ◌∙◌}
 use Rattle.capi_states.proofs.stations.put_record.Goals as goal
 

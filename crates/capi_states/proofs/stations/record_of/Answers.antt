@@ -4,8 +4,8 @@ use borrow.Author.Rules.{rules}
 use lib.ListN.{length}
 use native.Mathlib.Numerals.{add-one}
 use native.Mathlib.Omega.{arith}
-use Prim.Native.Nat.{◌≤◌, ◌-◌, ◌/◌}
-use mathlib.Core.Path.{◌≡◌, refl, ap, ◌∙◌}
+use Prim.Native.Nat.{◌/◌}
+use mathlib.Core.Path.{◌≡◌, refl, ◌∙◌}
 use Rattle.capi_states.proofs.stations.record_of.Goals as goal
 
 pub loop-i-init : goal.loop-i-init

@@ -1,11 +1,8 @@
 -- `record_of` is the record that `record_in` says: before turn i it is the record after i groups.
-use Rattle.capi_states.specs.Stations.{record_after, record_in}
-use borrow.Author.Rules.{rules}
+use Rattle.capi_states.specs.Stations.{record_after}
 use lib.ListN.{length}
-use native.Mathlib.Numerals.{add-one}
-use native.Mathlib.Omega.{arith}
 use Prim.Native.Nat.{◌≤◌, ◌-◌, ◌/◌}
-use mathlib.Core.Path.{◌≡◌, refl, ap, ◌∙◌}
+use mathlib.Core.Path.{◌≡◌}
 use Rattle.capi_states.proofs.stations.record_of.Given as goal
 
 abbrev pub invariant-loop-i : goal.invariant-loop-i

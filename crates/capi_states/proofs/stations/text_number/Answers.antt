@@ -2,7 +2,6 @@
 use borrow.Author.Tests.{lt-ltb, le-ltb}
 use native.Mathlib.Omega.{arith}
 use mathlib.Core.Path.{◌∙◌}
-use borrow.Author.Rules.{rules}
 use Rattle.capi_states.proofs.stations.text_number.Goals as goal
 
 pub returns-then-n-lt-TEXT_SIZE : goal.returns-then-n-lt-TEXT_SIZE

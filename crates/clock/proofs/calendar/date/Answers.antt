@@ -1,7 +1,6 @@
 -- `clock::calendar::date` meets its contract: its steps are those of `march-date`.
 use mathlib.Core.Path.{refl}
 use Rattle.clock.proofs.MarchYears.{march-date}
-use borrow.Author.Rules.{rules}
 use Rattle.clock.proofs.calendar.date.Goals as goal
 
 pub returns : goal.returns

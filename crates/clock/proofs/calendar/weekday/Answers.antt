@@ -1,7 +1,6 @@
 -- `clock::calendar::weekday` meets its contract: sevens taken off before the sum change nothing.
 use native.Mathlib.Omega.{arith}
 use Rattle.clock.specs.Calendar.{weekday_of}
-use borrow.Author.Rules.{rules}
 use Rattle.clock.proofs.calendar.weekday.Goals as goal
 
 pub returns : goal.returns

@@ -2,7 +2,6 @@
 use mathlib.Core.Path.{sym, ◌∙◌}
 use native.Mathlib.Omega.{arith}
 use Rattle.clock.proofs.Ranges.{range_out_false, range_by_day}
-use borrow.Author.Rules.{rules}
 use Rattle.clock.proofs.range.in_range.Goals as goal
 
 pub returns-then-clock-gt-LAST_HOUR : goal.returns-then-clock-gt-LAST_HOUR

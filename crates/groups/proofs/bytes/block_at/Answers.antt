@@ -1,12 +1,11 @@
 -- `groups::bytes::block_at` meets its promise: a group past the end is zeros, else it is read from its first byte on.
-use Prim.Native.Nat.{ℕ, ◌+◌, ◌*◌, ◌/◌, ◌%◌, ◌-◌, ◌≤◌}
-use mathlib.Core.Path.{◌≡◌, sym, ap, ◌∙◌}
+use Prim.Native.Nat.{◌*◌, ◌/◌, ◌%◌, ◌-◌}
+use mathlib.Core.Path.{sym, ap, ◌∙◌}
 use native.Mathlib.Omega.{arith}
 use lib.ListN.{length, drop, length-drop}
 use lib.Seq.{take_all}
 use Rattle.groups.specs.Written.{block_in}
 use Rattle.groups.proofs.BlocksInBytes.{block_past, block_in-drop}
-use borrow.Author.Rules.{rules}
 use Rattle.groups.proofs.bytes.block_at.Goals as goal
 
 pub returns-then-group-bytes : goal.returns-then-group-bytes

@@ -1,7 +1,6 @@
 -- `groups::bytes::block_from` meets its promise: 26 of the 32 bits of four bytes.
 use native.Mathlib.Omega.{arith}
 use Rattle.groups.proofs.BlocksInBytes.{block_in_bytes}
-use borrow.Author.Rules.{rules}
 use Rattle.groups.proofs.bytes.block_from.Goals as goal
 
 pub returns : goal.returns

@@ -1,6 +1,5 @@
 -- `groups::bytes::blocks_of` meets its promise: block by block.
 use Rattle.groups.specs.Written.{blocks_of}
-use borrow.Author.Rules.{rules}
 use Rattle.groups.proofs.bytes.blocks_of.Goals as goal
 
 pub returns : goal.returns

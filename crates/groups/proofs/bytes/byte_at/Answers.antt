@@ -1,6 +1,5 @@
 -- `groups::bytes::byte_at` meets its promise: by whether the slice reaches so far.
 use mathlib.Core.Path.{sym}
-use native.Mathlib.Omega.{arith}
 use lib.ListN.{get_or-eq_default}
 use borrow.Author.Rules.{rules}
 use Rattle.groups.proofs.bytes.byte_at.Goals as goal

@@ -1,6 +1,5 @@
 -- `groups::bytes::bytes_of` meets its promise: the four blocks packed.
 use Rattle.groups.specs.Written.{group_bytes}
-use borrow.Author.Rules.{rules}
 use Rattle.groups.proofs.bytes.bytes_of.Goals as goal
 
 pub returns : goal.returns

@@ -1,6 +1,5 @@
 -- `groups::bytes::group_of` meets its promise: filled block by block.
 use Rattle.groups.specs.Written.{group_in}
-use borrow.Author.Rules.{rules}
 use Rattle.groups.proofs.bytes.group_of.Goals as goal
 
 pub returns : goal.returns

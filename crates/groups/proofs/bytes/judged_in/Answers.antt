@@ -1,5 +1,4 @@
 -- `groups::bytes::judged_in` meets its promise: the block, judged as the kind that its place expects.
-use borrow.Author.Rules.{rules}
 use Rattle.groups.proofs.bytes.judged_in.Goals as goal
 
 pub returns : goal.returns

@@ -1,6 +1,5 @@
 -- `groups::bytes::packed` meets its promise: the thirteen bytes are quotients of two halves.
 use Rattle.groups.proofs.Packing.{thirteen_bytes}
-use borrow.Author.Rules.{rules}
 use Rattle.groups.proofs.bytes.packed.Goals as goal
 
 pub returns : goal.returns

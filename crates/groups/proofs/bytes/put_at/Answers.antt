@@ -1,10 +1,6 @@
 -- `groups::bytes::put_at` meets its promise: by whether there is room.
-use mathlib.Core.Path.{◌∙◌, ap}
 use native.Mathlib.Omega.{arith}
-use lib.ListN.{length}
-use lib.Seq.{length-paste}
-use Rattle.groups.proofs.RoomLaws.{length-group, put_short, put_done}
-use borrow.Author.Rules.{rules}
+use Rattle.groups.proofs.RoomLaws.{put_short, put_done}
 use Rattle.groups.proofs.bytes.put_at.Goals as goal
 
 pub returns-then-out-lt-SIZE : goal.returns-then-out-lt-SIZE

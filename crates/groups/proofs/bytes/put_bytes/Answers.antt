@@ -1,12 +1,10 @@
 -- `groups::bytes::put_bytes` meets its promise: before turn i the first i bytes are pasted in.
-use Prim.Native.Nat.{ℕ, ◌≤◌, ◌<◌, ◌-◌, ◌+◌}
-use mathlib.Core.Path.{◌≡◌, ap, ◌∙◌, sym}
-use mathlib.Core.List.{List}
+use mathlib.Core.Path.{◌≡◌, ap, ◌∙◌}
 use native.Mathlib.Omega.{arith}
 use native.Mathlib.Numerals.{add-one}
 use borrow.Author.Rules.{rules}
 use lib.ListN.{length}
-use lib.Seq.{paste, paste-zero, paste-suc, length-paste}
+use lib.Seq.{paste-zero, paste-suc, length-paste}
 use Rattle.groups.proofs.bytes.put_bytes.Goals as goal
 
 pub loop-i-init : goal.loop-i-init
@@ -21,11 +19,11 @@ bounds-out-at c =
 
 pub loop-i-preserved : goal.loop-i-preserved
 loop-i-preserved c = (
-      search rules,
-      rw (c.loop-i.invariant.1, add-one c.loop-i.i)
-          (paste-suc c.args.out.now c.args.at c.args.bytes c.loop-i.i 0 (omega arith)
-          (omega arith)),
-    )
+  search rules,
+  rw (c.loop-i.invariant.1, add-one c.loop-i.i)
+      (paste-suc c.args.out.now c.args.at c.args.bytes c.loop-i.i 0 (omega arith)
+      (omega arith)),
+)
 
 pub shape_of-out : goal.shape_of-out
 shape_of-out c =

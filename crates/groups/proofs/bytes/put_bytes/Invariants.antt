@@ -1,12 +1,7 @@
 -- `groups::bytes::put_bytes` meets its promise: before turn i the first i bytes are pasted in.
-use Prim.Native.Nat.{ℕ, ◌≤◌, ◌<◌, ◌-◌, ◌+◌}
-use mathlib.Core.Path.{◌≡◌, ap, ◌∙◌, sym}
-use mathlib.Core.List.{List}
-use native.Mathlib.Omega.{arith}
-use native.Mathlib.Numerals.{add-one}
-use borrow.Author.Rules.{rules}
-use lib.ListN.{length}
-use lib.Seq.{paste, paste-zero, paste-suc, length-paste}
+use Prim.Native.Nat.{◌≤◌, ◌-◌}
+use mathlib.Core.Path.{◌≡◌}
+use lib.Seq.{paste}
 use Rattle.groups.proofs.bytes.put_bytes.Given as goal
 
 abbrev pub invariant-loop-i : goal.invariant-loop-i

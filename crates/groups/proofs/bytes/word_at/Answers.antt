@@ -1,7 +1,4 @@
 -- `groups::bytes::word_at` meets its promise: the first 16 bits of the block.
-use Prim.Native.Nat.{◌/◌}
-use mathlib.Core.Path.{ap, ◌∙◌}
-use native.Mathlib.Omega.{arith}
 use Rattle.groups.proofs.BlocksInBytes.{block_in-lt, word_in-block}
 use borrow.Author.Rules.{rules}
 use Rattle.groups.proofs.bytes.word_at.Goals as goal

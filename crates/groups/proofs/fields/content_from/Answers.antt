@@ -1,7 +1,6 @@
 -- `groups::fields::content_from` meets its promise: each arm is one type with its version.
 use mathlib.Core.Path.{sym}
 use Rattle.groups.proofs.Contents.{content_0A, content_0B, content_2A, content_2B, content_4A, content_other}
-use borrow.Author.Rules.{rules}
 use Rattle.groups.proofs.fields.content_from.Goals as goal
 
 pub returns-in-0 : goal.returns-in-0

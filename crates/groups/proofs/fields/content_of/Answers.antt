@@ -1,5 +1,4 @@
 -- `groups::fields::content_of` meets its promise: by the group's words.
-use borrow.Author.Rules.{rules}
 use Rattle.groups.proofs.fields.content_of.Goals as goal
 
 pub returns : goal.returns

@@ -1,5 +1,4 @@
 -- `groups::fields::header_of` meets its promise: by the group's words.
-use borrow.Author.Rules.{rules}
 use Rattle.groups.proofs.fields.header_of.Goals as goal
 
 pub returns : goal.returns

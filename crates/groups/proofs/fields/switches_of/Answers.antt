@@ -1,9 +1,7 @@
 -- `groups::fields::switches_of` meets its promise: by type 0.
-use mathlib.Core.Path.{sym}
 use borrow.Author.Tests.{eq-eqb, ne_eqb}
 use Rattle.groups.specs.Header.{type_of}
 use Rattle.groups.specs.Content.{carried_of}
-use borrow.Author.Rules.{rules}
 use Rattle.groups.proofs.fields.switches_of.Goals as goal
 
 pub returns-then-word2-eq0 : goal.returns-then-word2-eq0

@@ -1,6 +1,6 @@
 -- `letters::room::put_digits` meets its promise: the digits before the last, and one digit more.
-use Rattle.std.proofs.Common.{arith, Fits}
-use native.Mathlib.Nat.{div-lt_self, mod-lt}
+use Rattle.std.proofs.Common.{arith}
+use native.Mathlib.Nat.{div-lt_self}
 use Rattle.letters.proofs.Buffers.{wrote_two}
 use Rattle.letters.proofs.Digits.{digits_small, digits_large, count_small, count_large}
 use Rattle.letters.proofs.room.+put_digits.Goals as goal

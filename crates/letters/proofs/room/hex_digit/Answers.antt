@@ -1,6 +1,5 @@
 -- `letters::room::hex_digit` meets its promise: by whether the digit is below ten.
 use borrow.Author.Tests.{lt-ltb, le-ltb}
-use borrow.Author.Rules.{rules}
 use Rattle.letters.proofs.room.hex_digit.Goals as goal
 
 pub returns-then-digit-lt10 : goal.returns-then-digit-lt10

@@ -1,6 +1,5 @@
 -- `letters::room::put_byte` meets its promise: one byte is stored.
 use Rattle.letters.proofs.Buffers.{wrote_byte}
-use borrow.Author.Rules.{rules}
 use Rattle.letters.proofs.room.put_byte.Goals as goal
 
 pub returns : goal.returns

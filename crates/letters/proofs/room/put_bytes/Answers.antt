@@ -1,10 +1,9 @@
 -- `letters::room::put_bytes` meets its promise: before turn i the first i bytes are pasted in.
-use Prim.Native.Nat.{◌≤◌, ◌-◌}
 use mathlib.Core.Path.{◌≡◌, ap, ◌∙◌}
 use native.Mathlib.Omega.{arith}
 use native.Mathlib.Numerals.{add-one}
 use lib.ListN.{length}
-use lib.Seq.{paste, paste-zero, paste-suc, length-paste, take-length}
+use lib.Seq.{paste-zero, paste-suc, length-paste, take-length}
 use Rattle.letters.specs.Letters.{written}
 use borrow.Author.Rules.{rules}
 use Rattle.letters.proofs.room.put_bytes.Goals as goal
@@ -22,12 +21,12 @@ bounds-out-at c =
 
 pub loop-i-preserved : goal.loop-i-preserved
 loop-i-preserved c = (
-      search rules,
-      rw (c.loop-i.invariant.1, add-one c.loop-i.i)
-          (paste-suc c.args.out.now c.args.at c.args.bytes.now
-          c.loop-i.i 0 (omega arith)
-          (omega arith)),
-    )
+  search rules,
+  rw (c.loop-i.invariant.1, add-one c.loop-i.i)
+      (paste-suc c.args.out.now c.args.at c.args.bytes.now
+      c.loop-i.i 0 (omega arith)
+      (omega arith)),
+)
 
 pub shape_of-out : goal.shape_of-out
 shape_of-out c =

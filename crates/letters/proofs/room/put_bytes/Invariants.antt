@@ -1,12 +1,8 @@
 -- `letters::room::put_bytes` meets its promise: before turn i the first i bytes are pasted in.
 use Prim.Native.Nat.{◌≤◌, ◌-◌}
-use mathlib.Core.Path.{◌≡◌, ap, ◌∙◌}
-use native.Mathlib.Omega.{arith}
-use native.Mathlib.Numerals.{add-one}
+use mathlib.Core.Path.{◌≡◌}
 use lib.ListN.{length}
-use lib.Seq.{paste, paste-zero, paste-suc, length-paste, take-length}
-use Rattle.letters.specs.Letters.{written}
-use borrow.Author.Rules.{rules}
+use lib.Seq.{paste}
 use Rattle.letters.proofs.room.put_bytes.Given as goal
 
 abbrev pub invariant-loop-i : goal.invariant-loop-i

@@ -2,7 +2,6 @@
 use native.Mathlib.Omega.{arith}
 use Rattle.letters.specs.Letters.{character_text}
 use Rattle.letters.proofs.Buffers.{wrote_two}
-use borrow.Author.Rules.{rules}
 use Rattle.letters.proofs.room.put_character.Goals as goal
 
 pub returns-then-is_shown : goal.returns-then-is_shown

@@ -2,7 +2,6 @@
 use native.Mathlib.Omega.{arith}
 use Rattle.letters.specs.Letters.{hex_four}
 use Rattle.letters.proofs.Buffers.{wrote_two}
-use borrow.Author.Rules.{rules}
 use Rattle.letters.proofs.room.put_hex.Goals as goal
 
 pub returns : goal.returns

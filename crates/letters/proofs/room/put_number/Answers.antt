@@ -1,7 +1,6 @@
 -- `letters::room::put_number` meets its promise: a u64 has at most 20 decimal digits.
 use native.Mathlib.Omega.{arith}
 use Rattle.letters.proofs.Digits.{count_most}
-use borrow.Author.Rules.{rules}
 use Rattle.letters.proofs.room.put_number.Goals as goal
 
 pub put_digits-requires : goal.put_digits-requires

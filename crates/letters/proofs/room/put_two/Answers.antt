@@ -1,7 +1,6 @@
 -- `letters::room::put_two` meets its promise: two digits, one behind the other.
 use native.Mathlib.Omega.{arith}
 use Rattle.letters.proofs.Buffers.{wrote_two}
-use borrow.Author.Rules.{rules}
 use Rattle.letters.proofs.room.put_two.Goals as goal
 
 pub returns : goal.returns

@@ -1,7 +1,6 @@
 -- `letters::room::put_word` meets its promise: a u64 has at most 8 digits in base 256.
 use native.Mathlib.Omega.{arith}
 use Rattle.letters.proofs.Digits.{count_most}
-use borrow.Author.Rules.{rules}
 use Rattle.letters.proofs.room.put_word.Goals as goal
 
 pub put_digits-requires : goal.put_digits-requires

@@ -1,13 +1,10 @@
 -- `marker::checks::first_bad_block` meets its promise. The loop's invariant: the first bad block of all is the first
 -- from here on.
 use Prim.Native.Nat.{◌-◌, ◌≤◌}
-use mathlib.Core.Path.{◌≡◌, refl}
+use mathlib.Core.Path.{◌≡◌}
 use Rattle.marker.specs.First.{first}
 use Rattle.marker.specs.Submission.{blocks_in}
 use Rattle.marker.specs.Tests.{block_wrong}
-use Rattle.marker.specs.Mark.{first_bad_block}
-use Rattle.marker.proofs.FirstLaws.{first_begin, first_stop, first_go, first_end}
-use borrow.Author.Rules.{rules}
 use Rattle.marker.proofs.checks.first_bad_block.Given as goal
 
 abbrev pub invariant-loop-block : goal.invariant-loop-block

@@ -1,6 +1,5 @@
 -- `marker::content::content_wrong` meets its promise: case by case.
 use Rattle.marker.specs.Tests.{content_wrong}
-use borrow.Author.Rules.{rules}
 use Rattle.marker.proofs.content.content_wrong.Goals as goal
 
 pub returns-in-Name0A : goal.returns-in-Name0A

@@ -1,7 +1,6 @@
 -- `marker::content::header_wrong` meets its promise: each field is compared with the key's.
 use Rattle.groups.specs.Content.{header_of}
 use Rattle.marker.specs.Tests.{header_wrong}
-use borrow.Author.Rules.{rules}
 use Rattle.marker.proofs.content.header_wrong.Goals as goal
 
 pub returns : goal.returns

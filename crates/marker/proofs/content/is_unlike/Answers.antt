@@ -1,6 +1,5 @@
 -- `marker::content::is_unlike` meets its promise: case by case.
 use Rattle.marker.specs.Tests.{unlike}
-use borrow.Author.Rules.{rules}
 use Rattle.marker.proofs.content.is_unlike.Goals as goal
 
 pub returns-in-NoFlag : goal.returns-in-NoFlag

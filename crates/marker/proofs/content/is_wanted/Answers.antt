@@ -1,6 +1,5 @@
 -- `marker::content::is_wanted` meets its promise: the wanted addresses are those below their number.
 use Rattle.keys.specs.Wanted.{wanted_address}
-use borrow.Author.Rules.{rules}
 use Rattle.marker.proofs.content.is_wanted.Goals as goal
 
 pub returns : goal.returns

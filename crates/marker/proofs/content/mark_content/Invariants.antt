@@ -1,15 +1,11 @@
 -- `marker::content::mark_content` meets its promise. The loop's invariant: the first bad group of all is the first
 -- from here on, the flag held is the first 2A's, and the mask has the addresses that came so far.
 use Prim.Native.Nat.{ℕ, ◌-◌, ◌<◌, ◌≤◌}
-use mathlib.Core.Path.{◌≡◌, refl}
+use mathlib.Core.Path.{◌≡◌}
 use Rattle.marker.specs.First.{first}
 use Rattle.marker.specs.Submission.{groups_in}
 use Rattle.marker.specs.Tests.{first_flag, group_wrong, came}
 use Rattle.marker.specs.Steps.{has, mask_bits}
-use Rattle.marker.proofs.FirstLaws.{first_begin}
-use Rattle.marker.proofs.StepLaws.{flag-begin, seen-begin, content_stop, right_content, content_go, held_go}
-use Rattle.marker.proofs.StepLaws.{seen_go, content-end}
-use borrow.Author.Rules.{rules}
 use Rattle.marker.proofs.content.mark_content.Given as goal
 
 abbrev pub invariant-loop-group : goal.invariant-loop-group

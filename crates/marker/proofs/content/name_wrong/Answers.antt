@@ -1,6 +1,5 @@
 -- `marker::content::name_wrong` meets its promise: the pair is compared with the key's.
 use Rattle.marker.specs.Tests.{name_wrong}
-use borrow.Author.Rules.{rules}
 use Rattle.marker.proofs.content.name_wrong.Goals as goal
 
 pub returns : goal.returns

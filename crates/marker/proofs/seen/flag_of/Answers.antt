@@ -1,6 +1,5 @@
 -- `marker::seen::flag_of` meets its promise: case by case.
 use Rattle.marker.specs.Steps.{held_after}
-use borrow.Author.Rules.{rules}
 use Rattle.marker.proofs.seen.flag_of.Goals as goal
 
 pub returns-in-Name0A : goal.returns-in-Name0A

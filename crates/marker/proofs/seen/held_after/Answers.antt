@@ -1,6 +1,5 @@
 -- `marker::seen::held_after` meets its promise: a flag that is held stays.
 use Rattle.marker.specs.Steps.{held_after}
-use borrow.Author.Rules.{rules}
 use Rattle.marker.proofs.seen.held_after.Goals as goal
 
 pub returns-in-Flag : goal.returns-in-Flag

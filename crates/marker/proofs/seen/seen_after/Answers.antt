@@ -2,7 +2,6 @@
 use mathlib.Core.Path.{sym}
 use mathlib.Core.Bool.{or-false}
 use Rattle.marker.specs.Tests.{brings}
-use borrow.Author.Rules.{rules}
 use Rattle.marker.proofs.seen.seen_after.Goals as goal
 
 pub returns-in-Name0A : goal.returns-in-Name0A

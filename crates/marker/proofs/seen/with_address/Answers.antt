@@ -1,6 +1,5 @@
 -- `marker::seen::with_address` meets its promise: the bit of the address is added.
 use Rattle.marker.proofs.MaskLaws.{has-shifted, has_past}
-use borrow.Author.Rules.{rules}
 use Rattle.marker.proofs.seen.with_address.Goals as goal
 
 pub returns-then-address-ge-MASK : goal.returns-then-address-ge-MASK

@@ -1,8 +1,5 @@
 -- `receiver::Receiver::advance` meets its promise. Feeding on from where the loop is gives the whole answer.
-use Prim.Native.Nat.{◌+◌, ◌*◌, ◌-◌, ◌<◌}
-use mathlib.Core.Path.{◌≡◌, refl, sym, ◌∙◌}
-use lib.ListN.{length}
-use Rattle.receiver.specs.Feeding.{byte_bits, advance_of}
+use mathlib.Core.Path.{refl, sym, ◌∙◌}
 use Rattle.receiver.proofs.Feeds.{advance-end, advance_no-bit, then_on, then_stop, advance_settled}
 use borrow.Author.Rules.{rules}
 use native.Mathlib.Omega.{arith}

@@ -3,7 +3,6 @@ use Rattle.receiver.proofs.Refusal.{step_settled}
 use Rattle.receiver.specs.Machine.{step_of}
 use borrow.Author.Tests.{lt-ltb, le-ltb}
 use native.Mathlib.Omega.{arith}
-use borrow.Author.Rules.{rules}
 use Rattle.receiver.proofs.Receiver.step.Goals as goal
 
 pub returns-then-bit-gt-ONE : goal.returns-then-bit-gt-ONE

@@ -4,7 +4,6 @@ use mathlib.Core.Path.{◌≡◌}
 use Rattle.bits.specs.Bytes.{bit_at}
 use Rattle.receiver.specs.Feeding.{byte_bits}
 use native.Mathlib.Omega.{arith}
-use borrow.Author.Rules.{rules}
 use Rattle.receiver.proofs.feeding.bit_of.Goals as goal
 
 pub returns : goal.returns

@@ -1,7 +1,6 @@
 -- `receiver::feeding::fed` meets its promise: one step, and the place after its bit.
 use Rattle.receiver.proofs.Feeds.{feed-one}
 use native.Mathlib.Omega.{arith}
-use borrow.Author.Rules.{rules}
 use Rattle.receiver.proofs.feeding.fed.Goals as goal
 
 pub returns : goal.returns

@@ -1,12 +1,7 @@
 -- `receiver::feeding::fill` meets its promise. Feeding on from where the loop is gives the whole answer.
 use Rattle.receiver.proofs.Quiet.{inside_bit}
-use Rattle.receiver.specs.Feeding.{byte_bits, advance_of}
-use Rattle.receiver.specs.Machine.{shift_of, is_hunting_of, inside_of}
-use Rattle.receiver.specs.declared.Receiver.{Receiver}
-use Rattle.blocks.specs.Damage.{block_bits}
-use Prim.Native.Nat.{◌+◌, ◌*◌, ◌-◌, ◌<◌, ◌≤◌}
-use mathlib.Core.Bool.{false}
-use mathlib.Core.Path.{◌≡◌, refl, ap, ◌∙◌}
+use Rattle.receiver.specs.Machine.{shift_of}
+use mathlib.Core.Path.{refl, ap, ◌∙◌}
 use borrow.Author.Rules.{rules}
 use native.Mathlib.Omega.{arith}
 use Rattle.receiver.proofs.feeding.fill.Goals as goal

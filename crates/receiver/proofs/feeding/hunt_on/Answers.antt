@@ -1,12 +1,11 @@
 -- `receiver::feeding::hunt_on` meets its promise. Feeding on from where the loop is gives the whole answer.
 use Rattle.receiver.proofs.Quiet.{shift-limit, hunt_bit}
 use Rattle.receiver.specs.Strides.{is_lock_of}
-use Rattle.receiver.specs.Feeding.{byte_bits, advance_of}
-use Rattle.receiver.specs.Machine.{shift_of, hunting_of}
+use Rattle.receiver.specs.Feeding.{byte_bits}
+use Rattle.receiver.specs.Machine.{shift_of}
 use Rattle.bits.proofs.ByteBits.{bit_at_lt}
-use lib.ListN.{length}
-use Prim.Native.Nat.{◌+◌, ◌*◌, ◌-◌, ◌<◌, ◌≤◌}
-use mathlib.Core.Path.{◌≡◌, refl, sym, ap, ◌∙◌}
+use Prim.Native.Nat.{◌+◌, ◌*◌}
+use mathlib.Core.Path.{refl, sym, ap, ◌∙◌}
 use borrow.Author.Rules.{rules}
 use native.Mathlib.Omega.{arith}
 use Rattle.receiver.proofs.feeding.hunt_on.Goals as goal

@@ -1,5 +1,4 @@
 -- `receiver::feeding::resting` meets its promise: the two calls.
-use borrow.Author.Rules.{rules}
 use Rattle.receiver.proofs.feeding.resting.Goals as goal
 
 -- src/feeding.rt:76:1

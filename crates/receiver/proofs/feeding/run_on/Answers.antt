@@ -2,7 +2,6 @@
 use Rattle.receiver.proofs.Quiet.{hunting_bare, taken-hunting, taken_inside}
 use mathlib.Core.Path.{sym, ◌∙◌}
 use native.Mathlib.Omega.{arith}
-use borrow.Author.Rules.{rules}
 use Rattle.receiver.proofs.feeding.run_on.Goals as goal
 
 -- src/feeding.rt:177:1

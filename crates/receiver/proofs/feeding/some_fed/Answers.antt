@@ -1,5 +1,4 @@
 -- `receiver::feeding::some_fed` meets its promise: by whether a bit is left after those that were taken in.
-use borrow.Author.Rules.{rules}
 use mathlib.Core.Path.{◌∙◌}
 use native.Mathlib.Omega.{arith}
 use Rattle.receiver.proofs.feeding.some_fed.Goals as goal

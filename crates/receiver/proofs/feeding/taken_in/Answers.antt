@@ -1,6 +1,5 @@
 -- `receiver::feeding::taken_in` meets its promise: by whether it hunts.
 use Rattle.receiver.specs.Strides.{taken_in_of}
-use borrow.Author.Rules.{rules}
 use Rattle.receiver.proofs.feeding.taken_in.Goals as goal
 
 -- src/feeding.rt:168:9

@@ -1,8 +1,7 @@
 -- `station::stored::clock_or` meets its promise: by the cases of what came.
-use mathlib.Core.Path.{refl, sym, ap, ◌∙◌}
+use mathlib.Core.Path.{sym, ap}
 use Rattle.clock.specs.declared.Held.{Held}
 use Rattle.station.specs.Update.{clock_or}
-use borrow.Author.Rules.{rules}
 use Rattle.station.proofs.stored.clock_or.Goals as goal
 
 pub returns-in-At : goal.returns-in-At

@@ -1,8 +1,7 @@
 -- `station::stored::holds_other` meets its promise: by the cases of what is held.
-use mathlib.Core.Path.{sym, ap, ◌∙◌}
+use mathlib.Core.Path.{sym, ap}
 use Rattle.station.specs.declared.HeldFlag.{HeldFlag}
 use Rattle.station.specs.Update.{holds_other}
-use borrow.Author.Rules.{rules}
 use Rattle.station.proofs.stored.holds_other.Goals as goal
 
 pub returns-in-Flag : goal.returns-in-Flag

@@ -3,7 +3,6 @@ use native.Mathlib.Omega.{arith}
 use borrow.Author.Tests.{le-leb, lt-leb}
 use Rattle.station.specs.Record.{name_pairs}
 use Rattle.station.specs.Update.{name_stored}
-use borrow.Author.Rules.{rules}
 use Rattle.station.proofs.stored.name_stored.Goals as goal
 
 pub returns-then-pair-ge-NAME_PAIRS : goal.returns-then-pair-ge-NAME_PAIRS

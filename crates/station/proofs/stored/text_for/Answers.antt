@@ -1,7 +1,6 @@
 -- `station::stored::text_for` meets its promise: by whether another flag is held.
 use mathlib.Core.Path.{sym, ◌∙◌}
 use Rattle.station.proofs.Holding.{text_on, text_anew}
-use borrow.Author.Rules.{rules}
 use Rattle.station.proofs.stored.text_for.Goals as goal
 
 pub returns-then-holds_other : goal.returns-then-holds_other

@@ -3,7 +3,6 @@ use native.Mathlib.Omega.{arith}
 use borrow.Author.Tests.{le-leb, lt-leb}
 use Rattle.station.specs.Record.{text_pairs}
 use Rattle.station.specs.Update.{text_stored}
-use borrow.Author.Rules.{rules}
 use Rattle.station.proofs.stored.text_stored.Goals as goal
 
 pub returns-then-pair-ge-TEXT_PAIRS : goal.returns-then-pair-ge-TEXT_PAIRS

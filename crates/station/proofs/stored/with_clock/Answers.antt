@@ -1,11 +1,10 @@
 -- `station::stored::with_clock` meets its promise: by the cases of the content.
-use mathlib.Core.Path.{refl, sym, ap, ◌∙◌}
+use mathlib.Core.Path.{sym, ap}
 use Rattle.groups.specs.declared.fields.Content.{Content}
 use Rattle.clock.specs.declared.Held.{Held}
 use Rattle.groups.specs.declared.Group.{Group}
 use Rattle.groups.specs.Group.{word_of}
 use Rattle.station.specs.Update.{clock_after}
-use borrow.Author.Rules.{rules}
 use Rattle.station.proofs.stored.with_clock.Goals as goal
 
 -- what is promised, by the content

@@ -1,7 +1,6 @@
 -- `station::stored::with_name` meets its promise: by the cases of the content.
-use mathlib.Core.Path.{refl, sym, ap, ◌∙◌}
+use mathlib.Core.Path.{sym, ap, ◌∙◌}
 use Rattle.station.specs.Update.{name_after}
-use borrow.Author.Rules.{rules}
 use Rattle.station.proofs.stored.with_name.Goals as goal
 
 pub returns-in-Name0A : goal.returns-in-Name0A

@@ -1,5 +1,4 @@
 -- `telling::held::flag_piece` meets its promise: by whether a flag is held.
-use borrow.Author.Rules.{rules}
 use Rattle.telling.proofs.held.flag_piece.Goals as goal
 
 pub returns-in-Flag : goal.returns-in-Flag

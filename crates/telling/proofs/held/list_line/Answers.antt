@@ -1,5 +1,4 @@
 -- `telling::held::list_line` meets its promise: each piece is what its function promises.
-use borrow.Author.Rules.{rules}
 use Rattle.telling.proofs.held.list_line.Goals as goal
 
 pub returns : goal.returns

@@ -1,5 +1,4 @@
 -- `telling::held::pi_piece` meets its promise: by whether a PI is held.
-use borrow.Author.Rules.{rules}
 use Rattle.telling.proofs.held.pi_piece.Goals as goal
 
 pub returns-in-Pi : goal.returns-in-Pi

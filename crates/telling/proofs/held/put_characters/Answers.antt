@@ -1,10 +1,9 @@
 -- `telling::held::put_characters` meets its promise: before turn i the first i characters are written.
-use Prim.Native.Nat.{◌+◌, ◌*◌, ◌-◌, ◌≤◌}
-use mathlib.Core.Path.{◌≡◌, refl}
+use mathlib.Core.Path.{refl}
 use native.Mathlib.Omega.{arith}
-use lib.ListN.{length, get_or}
+use lib.ListN.{get_or}
 use Rattle.letters.specs.Letters.{character_text}
-use Rattle.letters.proofs.Buffers.{Turn, turn_first, turn_next, turn_last}
+use Rattle.letters.proofs.Buffers.{turn_first, turn_next, turn_last}
 use Rattle.letters.proofs.Puts.{put_wrote}
 use Rattle.letters.proofs.Sizes.{character_most}
 use borrow.Author.Rules.{rules}
@@ -12,11 +11,11 @@ use Rattle.telling.proofs.held.put_characters.Goals as goal
 
 pub loop-i-init : goal.loop-i-init
 loop-i-init c = (
-      omega arith,
-      omega arith,
-      refl,
-      turn_first character_text c.args.characters.now c.args.out.now c.args.at,
-    )
+  omega arith,
+  omega arith,
+  refl,
+  turn_first character_text c.args.characters.now c.args.out.now c.args.at,
+)
 
 pub loop-i-preserved : goal.loop-i-preserved
 loop-i-preserved c =
@@ -32,7 +31,7 @@ loop-i-preserved c =
 
 pub returns : goal.returns
 returns c = (
-      turn_last character_text c.args.characters.now c.args.out.now c.args.at (omega arith)
-          c.loop-i.invariant.3,
-      omega arith,
-    )
+  turn_last character_text c.args.characters.now c.args.out.now c.args.at (omega arith)
+      c.loop-i.invariant.3,
+  omega arith,
+)

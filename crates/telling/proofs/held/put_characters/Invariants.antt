@@ -1,13 +1,9 @@
 -- `telling::held::put_characters` meets its promise: before turn i the first i characters are written.
 use Prim.Native.Nat.{◌+◌, ◌*◌, ◌-◌, ◌≤◌}
-use mathlib.Core.Path.{◌≡◌, refl}
-use native.Mathlib.Omega.{arith}
-use lib.ListN.{length, get_or}
+use mathlib.Core.Path.{◌≡◌}
+use lib.ListN.{length}
 use Rattle.letters.specs.Letters.{character_text}
-use Rattle.letters.proofs.Buffers.{Turn, turn_first, turn_next, turn_last}
-use Rattle.letters.proofs.Puts.{put_wrote}
-use Rattle.letters.proofs.Sizes.{character_most}
-use borrow.Author.Rules.{rules}
+use Rattle.letters.proofs.Buffers.{Turn}
 use Rattle.telling.proofs.held.put_characters.Given as goal
 
 abbrev pub invariant-loop-i : goal.invariant-loop-i

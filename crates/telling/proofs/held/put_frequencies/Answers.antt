@@ -1,10 +1,7 @@
 -- `telling::held::put_frequencies` meets its promise: before turn i the first i frequencies are written.
-use Prim.Native.Nat.{◌+◌, ◌*◌, ◌-◌, ◌≤◌}
 use mathlib.Core.Path.{◌≡◌, refl}
 use native.Mathlib.Omega.{arith}
 use native.Mathlib.Numerals.{add-one}
-use lib.ListN.{length}
-use Rattle.letters.specs.Letters.{Wrote}
 use Rattle.telling.specs.Station.{frequencies_to}
 use Rattle.letters.proofs.Buffers.{wrote_none, wrote_two}
 use borrow.Author.Rules.{rules}
@@ -13,12 +10,12 @@ use Rattle.telling.proofs.held.put_frequencies.Goals as goal
 pub loop-i-init : goal.loop-i-init
 unfolding frequencies_to
 loop-i-init c = (
-      omega arith,
-      omega arith,
-      refl,
-      wrote_none c.args.out.now
-          c.args.at,
-    )
+  omega arith,
+  omega arith,
+  refl,
+  wrote_none c.args.out.now
+      c.args.at,
+)
 
 pub loop-i-preserved : goal.loop-i-preserved
 unfolding frequencies_to

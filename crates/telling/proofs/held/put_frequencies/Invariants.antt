@@ -1,13 +1,9 @@
 -- `telling::held::put_frequencies` meets its promise: before turn i the first i frequencies are written.
 use Prim.Native.Nat.{◌+◌, ◌*◌, ◌-◌, ◌≤◌}
-use mathlib.Core.Path.{◌≡◌, refl}
-use native.Mathlib.Omega.{arith}
-use native.Mathlib.Numerals.{add-one}
+use mathlib.Core.Path.{◌≡◌}
 use lib.ListN.{length}
 use Rattle.letters.specs.Letters.{Wrote}
 use Rattle.telling.specs.Station.{frequencies_to}
-use Rattle.letters.proofs.Buffers.{wrote_none, wrote_two}
-use borrow.Author.Rules.{rules}
 use Rattle.telling.proofs.held.put_frequencies.Given as goal
 
 abbrev pub invariant-loop-i : goal.invariant-loop-i

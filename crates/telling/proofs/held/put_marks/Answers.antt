@@ -1,22 +1,20 @@
 -- `telling::held::put_marks` meets its promise: before turn i the first i marks are written.
-use Prim.Native.Nat.{◌+◌, ◌-◌, ◌≤◌}
-use mathlib.Core.Path.{◌≡◌, refl}
+use mathlib.Core.Path.{refl}
 use mathlib.Core.Bool.{false}
 use native.Mathlib.Omega.{arith}
-use lib.ListN.{length}
 use Rattle.telling.specs.Station.{mark_text}
-use Rattle.letters.proofs.Buffers.{Turn, turn_first, turn_next, turn_last}
+use Rattle.letters.proofs.Buffers.{turn_first, turn_next, turn_last}
 use Rattle.letters.proofs.Puts.{put_wrote}
 use borrow.Author.Rules.{rules}
 use Rattle.telling.proofs.held.put_marks.Goals as goal
 
 pub loop-i-init : goal.loop-i-init
 loop-i-init c = (
-      omega arith,
-      omega arith,
-      refl,
-      turn_first mark_text c.args.seen.now c.args.out.now c.args.at,
-    )
+  omega arith,
+  omega arith,
+  refl,
+  turn_first mark_text c.args.seen.now c.args.out.now c.args.at,
+)
 
 pub loop-i-preserved : goal.loop-i-preserved
 loop-i-preserved c =
@@ -31,7 +29,7 @@ loop-i-preserved c =
 
 pub returns : goal.returns
 returns c = (
-      turn_last mark_text c.args.seen.now c.args.out.now c.args.at (omega arith)
-          c.loop-i.invariant.3,
-      omega arith,
-    )
+  turn_last mark_text c.args.seen.now c.args.out.now c.args.at (omega arith)
+      c.loop-i.invariant.3,
+  omega arith,
+)

@@ -1,13 +1,9 @@
 -- `telling::held::put_marks` meets its promise: before turn i the first i marks are written.
 use Prim.Native.Nat.{◌+◌, ◌-◌, ◌≤◌}
-use mathlib.Core.Path.{◌≡◌, refl}
-use mathlib.Core.Bool.{false}
-use native.Mathlib.Omega.{arith}
+use mathlib.Core.Path.{◌≡◌}
 use lib.ListN.{length}
 use Rattle.telling.specs.Station.{mark_text}
-use Rattle.letters.proofs.Buffers.{Turn, turn_first, turn_next, turn_last}
-use Rattle.letters.proofs.Puts.{put_wrote}
-use borrow.Author.Rules.{rules}
+use Rattle.letters.proofs.Buffers.{Turn}
 use Rattle.telling.proofs.held.put_marks.Given as goal
 
 abbrev pub invariant-loop-i : goal.invariant-loop-i

@@ -1,7 +1,6 @@
 -- `telling::held::put_name` meets its promise: its line, characters and marks.
 use native.Mathlib.Omega.{arith}
 use Rattle.telling.specs.Station.{name_text}
-use borrow.Author.Rules.{rules}
 use Rattle.telling.proofs.held.put_name.Goals as goal
 
 pub returns : goal.returns

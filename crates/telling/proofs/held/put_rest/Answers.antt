@@ -2,7 +2,6 @@
 use native.Mathlib.Omega.{arith}
 use Rattle.telling.specs.Station.{rest_text}
 use Rattle.letters.proofs.Buffers.{wrote_two}
-use borrow.Author.Rules.{rules}
 use Rattle.telling.proofs.held.put_rest.Goals as goal
 
 pub returns : goal.returns

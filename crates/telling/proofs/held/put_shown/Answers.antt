@@ -1,7 +1,6 @@
 -- `telling::held::put_shown` meets its promise: a line, characters, a word and marks, one behind the other.
 use native.Mathlib.Omega.{arith}
 use Rattle.letters.proofs.Buffers.{wrote_two}
-use borrow.Author.Rules.{rules}
 use Rattle.telling.proofs.held.put_shown.Goals as goal
 
 pub returns : goal.returns

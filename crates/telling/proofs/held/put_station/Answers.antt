@@ -2,7 +2,6 @@
 use native.Mathlib.Omega.{arith}
 use Rattle.telling.specs.Station.{station_text}
 use Rattle.letters.proofs.Buffers.{wrote_two}
-use borrow.Author.Rules.{rules}
 use Rattle.telling.proofs.held.put_station.Goals as goal
 
 pub returns : goal.returns

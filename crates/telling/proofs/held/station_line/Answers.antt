@@ -1,5 +1,4 @@
 -- `telling::held::station_line` meets its promise: each piece is what its function promises.
-use borrow.Author.Rules.{rules}
 use Rattle.telling.proofs.held.station_line.Goals as goal
 
 pub returns : goal.returns

@@ -1,5 +1,4 @@
 -- `telling::lines::af_label` meets its promise: by the answer.
-use borrow.Author.Rules.{rules}
 use Rattle.telling.proofs.lines.af_label.Goals as goal
 
 pub returns-in-NoFrequency : goal.returns-in-NoFrequency

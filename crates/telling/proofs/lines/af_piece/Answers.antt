@@ -1,5 +1,4 @@
 -- `telling::lines::af_piece` meets its promise: by the answer.
-use borrow.Author.Rules.{rules}
 use Rattle.telling.proofs.lines.af_piece.Goals as goal
 
 pub returns-in-Khz : goal.returns-in-Khz

@@ -1,5 +1,4 @@
 -- `telling::lines::clock_line` meets its promise: by whether there is a clock; silent pieces add nothing.
-use borrow.Author.Rules.{rules}
 use Rattle.telling.proofs.lines.clock_line.Goals as goal
 
 pub returns-in-At : goal.returns-in-At

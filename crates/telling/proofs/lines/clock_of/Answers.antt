@@ -1,5 +1,4 @@
 -- `telling::lines::clock_of` meets its promise: words 2, 3 and 4 are read.
-use borrow.Author.Rules.{rules}
 use Rattle.telling.proofs.lines.clock_of.Goals as goal
 
 pub returns : goal.returns

@@ -1,5 +1,4 @@
 -- `telling::lines::closing` meets its promise: by whether all blocks were good.
-use borrow.Author.Rules.{rules}
 use Rattle.telling.proofs.lines.closing.Goals as goal
 
 pub returns-then-is_all_good : goal.returns-then-is_all_good

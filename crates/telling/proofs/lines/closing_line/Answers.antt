@@ -1,5 +1,4 @@
 -- `telling::lines::closing_line` meets its promise: by what the group carries.
-use borrow.Author.Rules.{rules}
 use Rattle.telling.proofs.lines.closing_line.Goals as goal
 
 pub returns-in-Name0A : goal.returns-in-Name0A

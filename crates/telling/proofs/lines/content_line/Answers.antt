@@ -1,5 +1,4 @@
 -- `telling::lines::content_line` meets its promise: by what the group carries.
-use borrow.Author.Rules.{rules}
 use Rattle.telling.proofs.lines.content_line.Goals as goal
 
 pub returns-in-Name0A : goal.returns-in-Name0A

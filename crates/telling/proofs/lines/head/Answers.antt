@@ -1,5 +1,4 @@
 -- `telling::lines::head` meets its promise: each piece is what its function promises.
-use borrow.Author.Rules.{rules}
 use Rattle.telling.proofs.lines.head.Goals as goal
 
 pub returns : goal.returns

@@ -1,5 +1,4 @@
 -- `telling::lines::local_line` meets its promise: by whether there is a date; silent pieces add nothing.
-use borrow.Author.Rules.{rules}
 use Rattle.telling.proofs.lines.local_line.Goals as goal
 
 pub returns-in-Date : goal.returns-in-Date

@@ -1,5 +1,4 @@
 -- `telling::lines::name` meets its promise: its characters are what `first` and `second` promise.
-use borrow.Author.Rules.{rules}
 use Rattle.telling.proofs.lines.name.Goals as goal
 
 pub returns : goal.returns

@@ -1,5 +1,4 @@
 -- `telling::lines::name_with_af` meets its promise: the pair, and the codes over its first silent pieces.
-use borrow.Author.Rules.{rules}
 use Rattle.telling.proofs.lines.name_with_af.Goals as goal
 
 pub returns : goal.returns

@@ -1,5 +1,4 @@
 -- `telling::lines::text` meets its promise: its characters are what `first` and `second` promise.
-use borrow.Author.Rules.{rules}
 use Rattle.telling.proofs.lines.text.Goals as goal
 
 pub returns : goal.returns

@@ -1,5 +1,4 @@
 -- `telling::lines::text_of_four` meets its promise: the part's start, and the rest over its first silent pieces.
-use borrow.Author.Rules.{rules}
 use Rattle.telling.proofs.lines.text_of_four.Goals as goal
 
 pub returns : goal.returns

@@ -1,5 +1,4 @@
 -- `telling::lines::text_of_two` meets its promise: the part's start, and the quote over its first silent piece.
-use borrow.Author.Rules.{rules}
 use Rattle.telling.proofs.lines.text_of_two.Goals as goal
 
 pub returns : goal.returns

@@ -1,5 +1,4 @@
 -- `telling::lines::type_piece` meets its promise: by whether the block was good.
-use borrow.Author.Rules.{rules}
 use Rattle.telling.proofs.lines.type_piece.Goals as goal
 
 pub returns-then-good : goal.returns-then-good

@@ -1,5 +1,4 @@
 -- `telling::lines::word_piece` meets its promise: by whether the block was good.
-use borrow.Author.Rules.{rules}
 use Rattle.telling.proofs.lines.word_piece.Goals as goal
 
 pub returns-then-good : goal.returns-then-good

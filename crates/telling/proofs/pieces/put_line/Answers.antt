@@ -1,11 +1,9 @@
 -- `telling::pieces::put_line` meets its promise: before turn i the texts of the first i pieces are written.
-use Prim.Native.Nat.{◌+◌, ◌*◌, ◌-◌, ◌≤◌}
-use mathlib.Core.Path.{◌≡◌, refl}
+use mathlib.Core.Path.{refl}
 use native.Mathlib.Omega.{arith}
-use lib.ListN.{length}
 use Rattle.telling.specs.Pieces.{piece_text}
 use Rattle.telling.specs.declared.pieces.Piece.TheVariants.{Word}
-use Rattle.letters.proofs.Buffers.{Turn, turn_first, turn_next, turn_last}
+use Rattle.letters.proofs.Buffers.{turn_first, turn_next, turn_last}
 use borrow.Author.Rules.{rules}
 use Rattle.telling.proofs.pieces.put_line.Goals as goal
 
@@ -31,7 +29,7 @@ loop-i-preserved c =
 
 pub returns : goal.returns
 returns c = (
-      turn_last piece_text c.args.line c.args.out.now c.args.at (omega arith)
-          c.loop-i.invariant.3,
-      omega arith,
-    )
+  turn_last piece_text c.args.line c.args.out.now c.args.at (omega arith)
+      c.loop-i.invariant.3,
+  omega arith,
+)

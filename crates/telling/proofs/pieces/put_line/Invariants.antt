@@ -1,12 +1,9 @@
 -- `telling::pieces::put_line` meets its promise: before turn i the texts of the first i pieces are written.
 use Prim.Native.Nat.{◌+◌, ◌*◌, ◌-◌, ◌≤◌}
-use mathlib.Core.Path.{◌≡◌, refl}
-use native.Mathlib.Omega.{arith}
+use mathlib.Core.Path.{◌≡◌}
 use lib.ListN.{length}
 use Rattle.telling.specs.Pieces.{piece_text}
-use Rattle.telling.specs.declared.pieces.Piece.TheVariants.{Word}
-use Rattle.letters.proofs.Buffers.{Turn, turn_first, turn_next, turn_last}
-use borrow.Author.Rules.{rules}
+use Rattle.letters.proofs.Buffers.{Turn}
 use Rattle.telling.proofs.pieces.put_line.Given as goal
 
 abbrev pub invariant-loop-i : goal.invariant-loop-i

@@ -3,7 +3,6 @@ use native.Mathlib.Omega.{arith}
 use Rattle.letters.proofs.Buffers.{wrote_none}
 use Rattle.letters.proofs.Puts.{put_wrote}
 use Rattle.letters.proofs.Sizes.{letters_most, decimal_most, hex_most, character_most}
-use borrow.Author.Rules.{rules}
 use Rattle.telling.proofs.pieces.put_piece.Goals as goal
 
 pub returns-in-Word : goal.returns-in-Word
