@@ -1,5 +1,5 @@
 -- `second_cases::run_cases` is safe and ends: the cases are counted.
-use Rattle.std.proofs.Common.{◌≤◌, ◌*◌, ◌-◌, length, ◌×◌}
+use Rattle.std.proofs.Common.{◌≤◌, ◌*◌, ◌-◌, length}
 use Rattle.second_cases.proofs.run_cases.Given as goal
 
 abbrev pub invariant-loop-number : goal.invariant-loop-number
