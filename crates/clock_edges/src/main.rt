@@ -1,38 +1,41 @@
 // Runs the edges of the clock and writes a line for each: what is read, what is written, and the local date.
+#![tactic(auto)]
+
 use clock::{Clock, Held, Local, UtcDay, Written};
+use std::io;
 
-fn main() {
+fn main(rt: HostRuntime) -> io::Result<()> {
     // Words of day 15,078, 15,079, 88,127 and 88,128, each at 00:00 with offset 0.
-    read_line(0x4000, 0x75CC, 0x0000);
-    read_line(0x4000, 0x75CE, 0x0000);
-    read_line(0x4002, 0xB07E, 0x0000);
-    read_line(0x4002, 0xB080, 0x0000);
+    read_line(&rt, 0x4000, 0x75CC, 0x0000)?;
+    read_line(&rt, 0x4000, 0x75CE, 0x0000)?;
+    read_line(&rt, 0x4002, 0xB07E, 0x0000)?;
+    read_line(&rt, 0x4002, 0xB080, 0x0000)?;
     // The P line; day 45,218 with offset 24, with offset 25, and with sign 1 and offset 0.
-    read_line(0x4001, 0x6145, 0x7EEA);
-    read_line(0x4001, 0x6144, 0x0018);
-    read_line(0x4001, 0x6144, 0x0019);
-    read_line(0x4001, 0x6144, 0x0020);
+    read_line(&rt, 0x4001, 0x6145, 0x7EEA)?;
+    read_line(&rt, 0x4001, 0x6144, 0x0018)?;
+    read_line(&rt, 0x4001, 0x6144, 0x0019)?;
+    read_line(&rt, 0x4001, 0x6144, 0x0020)?;
 
-    write_line(0, at(15078, 0, 0, false, 0));
-    write_line(0, at(15079, 0, 0, false, 0));
-    write_line(31, at(88127, 23, 59, true, 24));
-    write_line(31, at(88128, 23, 59, true, 24));
-    write_line(31, at(88127, 23, 59, true, 25));
-    write_line(32, at(88127, 23, 59, true, 24));
-    write_line(0, at(45218, 0, 0, true, 0));
+    write_line(&rt, 0, at(15078, 0, 0, false, 0))?;
+    write_line(&rt, 0, at(15079, 0, 0, false, 0))?;
+    write_line(&rt, 31, at(88127, 23, 59, true, 24))?;
+    write_line(&rt, 31, at(88128, 23, 59, true, 24))?;
+    write_line(&rt, 31, at(88127, 23, 59, true, 25))?;
+    write_line(&rt, 32, at(88127, 23, 59, true, 24))?;
+    write_line(&rt, 0, at(45218, 0, 0, true, 0))?;
 
-    date_line(Held::Nothing);
-    date_line(Held::At(at(45218, 23, 59, true, 10)));
-    date_line(Held::At(at(15078, 0, 0, false, 48)));
-    date_line(Held::At(at(15079, 0, 0, false, 0)));
-    date_line(Held::At(at(15079, 0, 0, true, 1)));
-    date_line(Held::At(at(15079, 0, 30, true, 1)));
-    date_line(Held::At(at(88127, 0, 0, false, 0)));
-    date_line(Held::At(at(88127, 23, 29, false, 1)));
-    date_line(Held::At(at(88127, 23, 30, false, 1)));
-    date_line(Held::At(at(88128, 0, 0, true, 48)));
-    date_line(Held::At(at(51603, 12, 0, false, 24)));
-    date_line(Held::At(at(45218, 255, 255, false, 255)));
+    date_line(&rt, Held::Nothing)?;
+    date_line(&rt, Held::At(at(45218, 23, 59, true, 10)))?;
+    date_line(&rt, Held::At(at(15078, 0, 0, false, 48)))?;
+    date_line(&rt, Held::At(at(15079, 0, 0, false, 0)))?;
+    date_line(&rt, Held::At(at(15079, 0, 0, true, 1)))?;
+    date_line(&rt, Held::At(at(15079, 0, 30, true, 1)))?;
+    date_line(&rt, Held::At(at(88127, 0, 0, false, 0)))?;
+    date_line(&rt, Held::At(at(88127, 23, 29, false, 1)))?;
+    date_line(&rt, Held::At(at(88127, 23, 30, false, 1)))?;
+    date_line(&rt, Held::At(at(88128, 0, 0, true, 48)))?;
+    date_line(&rt, Held::At(at(51603, 12, 0, false, 24)))?;
+    date_line(&rt, Held::At(at(45218, 255, 255, false, 255)))
 }
 
 fn at(day: u32, hour: u8, minute: u8, negative: bool, half: u8) -> Clock {
@@ -46,63 +49,63 @@ fn at(day: u32, hour: u8, minute: u8, negative: bool, half: u8) -> Clock {
 }
 
 // `read` and the clock's fields, the sign as 1 for negative; or `read nothing`.
-fn read_line(word2: u16, word3: u16, word4: u16) {
-    io::write_all(1, b"read");
+fn read_line(rt: &impl Print, word2: u16, word3: u16, word4: u16) -> io::Result<()> {
+    rt.write_all(b"read")?;
     match clock::read(word2, word3, word4) {
         Held::At(c) => {
             let day = c.day;
-            number(day.0 as u64);
-            number(c.hour as u64);
-            number(c.minute as u64);
-            number(c.negative as u64);
-            number(c.half as u64);
+            number(rt, day.0 as u64)?;
+            number(rt, c.hour as u64)?;
+            number(rt, c.minute as u64)?;
+            number(rt, c.negative as u64)?;
+            number(rt, c.half as u64)?;
         }
         Held::Nothing => {
-            io::write_all(1, b" nothing");
+            rt.write_all(b" nothing")?;
         }
     }
-    io::write_all(1, b"\n");
+    rt.write_all(b"\n")
 }
 
 // `write`, the number of the answer, and the four words.
-fn write_line(pty: u8, c: Clock) {
-    io::write_all(1, b"write");
+fn write_line(rt: &impl Print, pty: u8, c: Clock) -> io::Result<()> {
+    rt.write_all(b"write")?;
     match clock::write(0x1001, true, pty, c) {
         Written::Words(word1, word2, word3, word4) => {
-            number(0);
-            number(word1 as u64);
-            number(word2 as u64);
-            number(word3 as u64);
-            number(word4 as u64);
+            number(rt, 0)?;
+            number(rt, word1 as u64)?;
+            number(rt, word2 as u64)?;
+            number(rt, word3 as u64)?;
+            number(rt, word4 as u64)?;
         }
         Written::OutOfRange => {
-            number(10);
+            number(rt, 10)?;
         }
     }
-    io::write_all(1, b"\n");
+    rt.write_all(b"\n")
 }
 
 // `date`, the number of the answer, and year, month, day, weekday, hour, minute.
-fn date_line(held: Held) {
-    io::write_all(1, b"date");
+fn date_line(rt: &impl Print, held: Held) -> io::Result<()> {
+    rt.write_all(b"date")?;
     match clock::local_date(held) {
         Local::Date(d) => {
-            number(0);
-            number(d.year as u64);
-            number(d.month as u64);
-            number(d.day as u64);
-            number(d.weekday as u64);
-            number(d.hour as u64);
-            number(d.minute as u64);
+            number(rt, 0)?;
+            number(rt, d.year as u64)?;
+            number(rt, d.month as u64)?;
+            number(rt, d.day as u64)?;
+            number(rt, d.weekday as u64)?;
+            number(rt, d.hour as u64)?;
+            number(rt, d.minute as u64)?;
         }
         Local::OutOfRange => {
-            number(10);
+            number(rt, 10)?;
         }
     }
-    io::write_all(1, b"\n");
+    rt.write_all(b"\n")
 }
 
-fn number(n: u64) {
-    io::write_all(1, b" ");
-    io::print_decimal(1, n);
+fn number(rt: &impl Print, n: u64) -> io::Result<()> {
+    rt.write_all(b" ")?;
+    rt.print(n)
 }

@@ -1,20 +1,22 @@
 // Encodes two keys whose groups are known into a buffer with one byte to spare, and the first once more into a buffer
 // that is one byte too short. Writes the answer and then the whole buffer in hex, 13 bytes a line.
+#![tactic(auto)]
+
 use encoder::Encoded;
-use libc::STDOUT_FILENO;
+use std::io;
 
 // Stands in every byte of a buffer before it is written.
 const UNWRITTEN: u8 = 0xEE;
 
-fn main() {
+fn main(rt: HostRuntime) -> io::Result<()> {
     let first = sheet(0x10, 0x01, 0, 0, b"ABCDEFGH");
     let second = sheet(0xD3, 0xC2, 10, 1, b"RADIO-UM");
     let mut roomy = [UNWRITTEN; 53];
-    write_encoded(&first, &mut roomy);
+    write_encoded(&rt, &first, &mut roomy)?;
     let mut again = [UNWRITTEN; 53];
-    write_encoded(&second, &mut again);
+    write_encoded(&rt, &second, &mut again)?;
     let mut short = [UNWRITTEN; 51];
-    write_encoded(&first, &mut short);
+    write_encoded(&rt, &first, &mut short)
 }
 
 // A sheet of one key, without text.
@@ -36,38 +38,38 @@ fn sheet(pi_high: u8, pi_low: u8, pty: u8, flags: u8, name: &[u8; 8]) -> [u8; 80
 }
 
 // The answer's number, with the bytes written, and then the buffer.
-fn write_encoded(sheet: &[u8], out: &mut [u8]) {
+fn write_encoded(rt: &impl Print, sheet: &[u8], out: &mut [u8]) -> io::Result<()> {
     let answer = encoder::encode(sheet, 0, out);
     match answer {
         Encoded::Written(count) => {
-            write_number(b"answer ", 0);
-            write_number(b" bytes ", count as u64);
+            write_number(rt, b"answer ", 0)?;
+            write_number(rt, b" bytes ", count as u64)?;
         }
-        Encoded::NoKey => write_number(b"answer ", 1),
-        Encoded::BadKey => write_number(b"answer ", 2),
-        Encoded::TooShort => write_number(b"answer ", 8),
+        Encoded::NoKey => write_number(rt, b"answer ", 1)?,
+        Encoded::BadKey => write_number(rt, b"answer ", 2)?,
+        Encoded::TooShort => write_number(rt, b"answer ", 8)?,
     }
-    io::write_all(STDOUT_FILENO, b"\n");
-    write_hex(out);
+    rt.write_all(b"\n")?;
+    write_hex(rt, out)
 }
 
-fn write_number(label: &[u8], n: u64) {
-    io::write_all(STDOUT_FILENO, label);
-    io::print_decimal(STDOUT_FILENO, n);
+fn write_number(rt: &impl Print, label: &[u8], n: u64) -> io::Result<()> {
+    rt.write_all(label)?;
+    rt.print(n)
 }
 
 // Bytes in hex, 13 to a line.
-fn write_hex(bytes: &[u8]) {
+fn write_hex(rt: &impl Print, bytes: &[u8]) -> io::Result<()> {
     let mut i = 0;
     while i < bytes.len() {
         let byte = bytes[i];
-        io::write_all(STDOUT_FILENO, &[digit(byte / 16), digit(byte % 16)]);
+        rt.write_all(&[digit(byte / 16), digit(byte % 16)])?;
         i += 1;
         if i % 13 == 0 {
-            io::write_all(STDOUT_FILENO, b"\n");
+            rt.write_all(b"\n")?;
         }
     }
-    io::write_all(STDOUT_FILENO, b"\n");
+    rt.write_all(b"\n")
 }
 
 // One of sixteen digits.

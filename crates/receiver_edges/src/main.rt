@@ -1,11 +1,14 @@
 // Feeds the streams on standard input, each to a fresh receiver, and writes a line for each answer and for each end.
 // A stream is its length in bytes (three bytes, high first) and the bytes, first bit highest. A stream that is not
 // whole is left out.
+#![tactic(auto)]
+
 ghost use Rattle.std.specs.Prelude.{◌≤◌};
 
 use groups::Group;
-use libc::{STDIN_FILENO, STDOUT_FILENO};
 use receiver::{Advanced, Answer, Receiver};
+use std::io;
+use std::io::Read;
 
 // The most that is read of the streams.
 const ROOM: usize = 300000;
@@ -19,39 +22,40 @@ fn wide(byte: u8) -> usize
     byte as usize
 }
 
-fn write(word: &[u8]) {
-    io::write_all(STDOUT_FILENO, word);
+fn write(rt: &impl Print, word: &[u8]) -> io::Result<()> {
+    rt.write_all(word)
 }
 
-fn write_number(word: &[u8], number: usize) {
-    write(word);
-    io::print_decimal(STDOUT_FILENO, number as u64);
+fn write_number(rt: &impl Print, word: &[u8], number: usize) -> io::Result<()> {
+    write(rt, word)?;
+    rt.print(number as u64)
 }
 
-fn write_word(word: u16) {
-    write(b" ");
-    io::print_hex(STDOUT_FILENO, word as u64, 4);
+fn write_word(rt: &impl Print, word: u16) -> io::Result<()> {
+    write(rt, b" ")?;
+    print!(rt; "{word:04x}")
 }
 
-fn write_good(good: bool) {
+fn write_good(rt: &impl Print, good: bool) -> io::Result<()> {
     if good {
-        write(b"1");
+        write(rt, b"1")?;
     } else {
-        write(b"0");
+        write(rt, b"0")?;
     }
+    Ok(())
 }
 
-fn write_group(group: Group) {
-    write(b" group");
-    write_word(groups::word(group, 0));
-    write_word(groups::word(group, 1));
-    write_word(groups::word(group, 2));
-    write_word(groups::word(group, 3));
-    write(b" good ");
-    write_good(groups::good(group, 0));
-    write_good(groups::good(group, 1));
-    write_good(groups::good(group, 2));
-    write_good(groups::good(group, 3));
+fn write_group(rt: &impl Print, group: Group) -> io::Result<()> {
+    write(rt, b" group")?;
+    write_word(rt, groups::word(group, 0))?;
+    write_word(rt, groups::word(group, 1))?;
+    write_word(rt, groups::word(group, 2))?;
+    write_word(rt, groups::word(group, 3))?;
+    write(rt, b" good ")?;
+    write_good(rt, groups::good(group, 0))?;
+    write_good(rt, groups::good(group, 1))?;
+    write_good(rt, groups::good(group, 2))?;
+    write_good(rt, groups::good(group, 3))
 }
 
 // The number of the bit in front of a place; 0 where there is none, or the place is beyond all streams.
@@ -66,27 +70,28 @@ fn bit_before(byte: usize, bit: u8) -> usize {
     bits - 1
 }
 
-fn write_answer(answer: Answer, group: Group) {
+fn write_answer(rt: &impl Print, answer: Answer, group: Group) -> io::Result<()> {
     match answer {
-        Answer::Nothing => write(b" nothing"),
-        Answer::Locked => write(b" locked"),
-        Answer::Group => write_group(group),
-        Answer::Lost => write(b" lost"),
+        Answer::Nothing => write(rt, b" nothing")?,
+        Answer::Locked => write(rt, b" locked")?,
+        Answer::Group => write_group(rt, group)?,
+        Answer::Lost => write(rt, b" lost")?,
         Answer::GroupAndLost => {
-            write_group(group);
-            write(b" lost");
+            write_group(rt, group)?;
+            write(rt, b" lost")?;
         }
-        Answer::Refused => write(b" refused"),
+        Answer::Refused => write(rt, b" refused")?,
     }
+    Ok(())
 }
 
-fn write_line(number: usize, came: Advanced) {
-    write_number(b"stream ", number);
-    write_number(b" bit ", bit_before(came.byte, came.bit));
+fn write_line(rt: &impl Print, number: usize, came: Advanced) -> io::Result<()> {
+    write_number(rt, b"stream ", number)?;
+    write_number(rt, b" bit ", bit_before(came.byte, came.bit))?;
     let answer = came.answer;
     let group = came.group;
-    write_answer(answer, group);
-    write(b"\n");
+    write_answer(rt, answer, group)?;
+    write(rt, b"\n")
 }
 
 fn is_nothing(answer: Answer) -> bool {
@@ -101,7 +106,7 @@ fn is_nothing(answer: Answer) -> bool {
 }
 
 // Feeds a stream whole. It has fewer answers than bytes: they lie 26 bits apart at least.
-fn feed(stream: &[u8], number: usize) {
+fn feed(rt: &impl Print, stream: &[u8], number: usize) -> io::Result<()> {
     let mut state = Receiver::new();
     let mut byte: usize = 0;
     let mut bit: u8 = 0;
@@ -112,18 +117,19 @@ fn feed(stream: &[u8], number: usize) {
         if is_nothing(answer) {
             break;
         }
-        write_line(number, came);
+        write_line(rt, number, came)?;
         state = came.next;
         byte = came.byte;
         bit = came.bit;
         left -= 1;
     }
+    Ok(())
 }
 
-fn run_stream(stream: &[u8], number: usize) {
-    feed(stream, number);
-    write_number(b"stream ", number);
-    write(b" end\n");
+fn run_stream(rt: &impl Print, stream: &[u8], number: usize) -> io::Result<()> {
+    feed(rt, stream, number)?;
+    write_number(rt, b"stream ", number)?;
+    write(rt, b" end\n")
 }
 
 fn length_of(high: u8, middle: u8, low: u8) -> usize
@@ -133,37 +139,40 @@ fn length_of(high: u8, middle: u8, low: u8) -> usize
 }
 
 // Runs the stream at a place of the input, and answers where the next begins: at the end where it is not whole.
-fn run_at(input: &[u8], at: usize, number: usize) -> usize {
+fn run_at(rt: &impl Print, input: &[u8], at: usize, number: usize) -> io::Result<usize> {
     let end = input.len();
     if end < LENGTH_BYTES {
-        return end;
+        return Ok(end);
     }
     if end > ROOM {
-        return end;
+        return Ok(end);
     }
     if end - LENGTH_BYTES < at {
-        return end;
+        return Ok(end);
     }
     let begin = at + LENGTH_BYTES;
     let next = begin + length_of(input[at], input[at + 1], input[at + 2]);
     if end < next {
-        return end;
+        return Ok(end);
     }
-    run_stream(&input[begin..next], number);
-    next
+    run_stream(rt, &input[begin..next], number)?;
+    Ok(next)
 }
 
-fn run_streams(input: &[u8]) {
+fn run_streams(rt: &impl Print, input: &[u8]) -> io::Result<()> {
     let mut at: usize = 0;
     for number in 0..2000usize {
         if at < input.len() {
-            at = run_at(input, at, number);
+            at = run_at(rt, input, at, number)?;
         }
     }
+    Ok(())
 }
 
-fn main() {
+fn main(rt: HostRuntime) -> io::Result<()> {
     let mut input = [0u8; 300000];
-    let length = io::read_full(STDIN_FILENO, &mut input);
-    run_streams(&input[..length]);
+    let mut rest: &mut [u8] = &mut input;
+    io::copy(&mut rt.reader().take(ROOM as u64), &mut rest)?;
+    let length = ROOM.saturating_sub(rest.len());
+    run_streams(&rt, &input[..length])
 }

@@ -1,11 +1,14 @@
 // Runs the cases on standard input through the library for other languages, and writes a line for each. A case is 17
 // bytes: its kind, and what is asked, numbers with the high byte first, zeros behind them. A line is the case's number
 // and its answers in hex.
+#![tactic(auto)]
+
 ghost use Rattle.std.specs.Prelude.{◌+◌, ◌≤◌, length};
 
 mod asked;
 
-use libc::{STDIN_FILENO, STDOUT_FILENO};
+use std::io;
+use std::io::Read;
 
 // The bytes of a case, and the most that is read of the cases.
 const CASE_SIZE: usize = 17;
@@ -15,21 +18,21 @@ const ROOM: usize = 100000;
 // The numbers of an AF list that eight words can give.
 const LIST_NUMBERS: usize = 18;
 
-fn write(word: &[u8]) {
-    io::write_all(STDOUT_FILENO, word);
+fn write(rt: &impl Print, word: &[u8]) -> io::Result<()> {
+    rt.write_all(word)
 }
 
-fn write_hex(number: u64) {
-    write(b" ");
-    io::print_hex(STDOUT_FILENO, number, 1);
+fn write_hex(rt: &impl Print, number: u64) -> io::Result<()> {
+    write(rt, b" ")?;
+    print!(rt; "{number:x}")
 }
 
-fn write_byte(byte: u8) {
-    write_hex(byte as u64);
+fn write_byte(rt: &impl Print, byte: u8) -> io::Result<()> {
+    write_hex(rt, byte as u64)
 }
 
 // Four words as thirteen bytes.
-fn write_group(case: &[u8]) {
+fn write_group(rt: &impl Print, case: &[u8]) -> io::Result<()> {
     let mut out = [0u8; 13];
     capi::group::bench_put_group(
         asked::word(case, 1),
@@ -40,22 +43,25 @@ fn write_group(case: &[u8]) {
         0,
     );
     for i in 0..13usize {
-        write_byte(out[i]);
+        write_byte(rt, out[i])?;
     }
+    Ok(())
 }
 
 // The four words of the group in thirteen bytes.
-fn read_group(bytes: &[u8]) {
+fn read_group(rt: &impl Print, bytes: &[u8]) -> io::Result<()> {
     for place in 0..4usize {
-        write_hex(capi::group::bench_read_word(bytes, place) as u64);
+        write_hex(rt, capi::group::bench_read_word(bytes, place) as u64)?;
     }
+    Ok(())
 }
 
 // The list of eight words.
-fn write_list(bytes: &[u8]) {
+fn write_list(rt: &impl Print, bytes: &[u8]) -> io::Result<()> {
     for n in 0..LIST_NUMBERS {
-        write_hex(capi::af::bench_af_list(bytes, n) as u64);
+        write_hex(rt, capi::af::bench_af_list(bytes, n) as u64)?;
     }
+    Ok(())
 }
 
 // The four words of a clock.
@@ -107,33 +113,36 @@ fn answer(case: &[u8], kind: u8) -> u64 {
     }
 }
 
-fn run_case(case: &[u8], number: usize)
+fn run_case(rt: &impl Print, case: &[u8], number: usize) -> io::Result<()>
     requires { 17 ≤ length case.now }
 {
-    write(b"case ");
-    io::print_decimal(STDOUT_FILENO, number as u64);
+    write(rt, b"case ")?;
+    rt.print(number as u64)?;
     let kind = asked::byte(case, 0);
     match kind {
-        10 => write_group(case),
-        11 => read_group(&case[1..14]),
-        12 => write_list(&case[1..17]),
-        _ => write_hex(answer(case, kind)),
+        10 => write_group(rt, case)?,
+        11 => read_group(rt, &case[1..14])?,
+        12 => write_list(rt, &case[1..17])?,
+        _ => write_hex(rt, answer(case, kind))?,
     }
-    write(b"\n");
+    write(rt, b"\n")
 }
 
-fn run_cases(input: &[u8]) {
+fn run_cases(rt: &impl Print, input: &[u8]) -> io::Result<()> {
     let cases = input.len() / CASE_SIZE;
     let mut number: usize = 0;
     while number < cases {
         let at = CASE_SIZE * number;
-        run_case(&input[at..at + CASE_SIZE], number);
+        run_case(rt, &input[at..at + CASE_SIZE], number)?;
         number += 1;
     }
+    Ok(())
 }
 
-fn main() {
+fn main(rt: HostRuntime) -> io::Result<()> {
     let mut input = [0u8; ROOM];
-    let length = io::read_full(STDIN_FILENO, &mut input);
-    run_cases(&input[..length]);
+    let mut rest: &mut [u8] = &mut input;
+    io::copy(&mut rt.reader().take(ROOM as u64), &mut rest)?;
+    let length = ROOM.saturating_sub(rest.len());
+    run_cases(&rt, &input[..length])
 }

@@ -1,14 +1,17 @@
 // Takes the streams of groups on standard input, one after the other, each into a fresh station record, and writes the
 // record at the end of each. A stream is the number of its groups (two bytes, high first) and nine bytes for each: four
 // words, high byte first, and a byte whose low four bits say which words were good, bit 3 for word 1.
+#![tactic(auto)]
+
 ghost use Rattle.std.specs.Prelude.{◌+◌, ◌≤◌, length};
 
 mod lines;
 
 use blocks::Judged;
 use groups::Group;
-use libc::STDIN_FILENO;
 use station::Record;
+use std::io;
+use std::io::Read;
 
 // The most that is read of the streams.
 const ROOM: usize = 100000;
@@ -62,37 +65,40 @@ fn record_of(bytes: &[u8]) -> Record {
 }
 
 // Takes the stream at a place of the input, and answers where the next begins: at the end where it is not whole.
-fn run_stream(input: &[u8], at: usize, number: usize) -> usize {
+fn run_stream(rt: &impl Print, input: &[u8], at: usize, number: usize) -> io::Result<usize> {
     let end = input.len();
     if end < 2 {
-        return end;
+        return Ok(end);
     }
     if end > ROOM {
-        return end;
+        return Ok(end);
     }
     if end - 2 < at {
-        return end;
+        return Ok(end);
     }
     let from = at + 2;
     let next = from + GROUP_SIZE * pair(input[at], input[at + 1]);
     if end < next {
-        return end;
+        return Ok(end);
     }
-    lines::write_record(number, record_of(&input[from..next]));
-    next
+    lines::write_record(rt, number, record_of(&input[from..next]))?;
+    Ok(next)
 }
 
-fn run_streams(input: &[u8]) {
+fn run_streams(rt: &impl Print, input: &[u8]) -> io::Result<()> {
     let mut at: usize = 0;
     for number in 0..1000usize {
         if at < input.len() {
-            at = run_stream(input, at, number);
+            at = run_stream(rt, input, at, number)?;
         }
     }
+    Ok(())
 }
 
-fn main() {
+fn main(rt: HostRuntime) -> io::Result<()> {
     let mut input = [0u8; ROOM];
-    let length = io::read_full(STDIN_FILENO, &mut input);
-    run_streams(&input[..length]);
+    let mut rest: &mut [u8] = &mut input;
+    io::copy(&mut rt.reader().take(ROOM as u64), &mut rest)?;
+    let length = ROOM.saturating_sub(rest.len());
+    run_streams(&rt, &input[..length])
 }
