@@ -1,5 +1,6 @@
 // What is open for reading, and why a call on it failed.
-ghost use Rattle.std.specs.Prelude.{length, pos, ◌≤ℤ◌};
+ghost use Rattle.std.specs.Prelude.{◌≡◌, length, None, pos, ◌≤ℤ◌};
+ghost use Rattle.std.specs.Io.{ReadsAtMost};
 
 use std::io;
 use std::io::{Error, Read};
@@ -11,15 +12,17 @@ pub enum Source<S, F> {
     File(F),
 }
 
-// A source, and the error of its last call, where that failed.
+// A source, and why a call on it failed, where one did.
 #[derive(Drop)]
 pub struct Opened<S, F> {
-    source: Source<S, F>,
-    failure: Option<Error>,
+    pub source: Source<S, F>,
+    pub failure: Option<Error>,
 }
 
 // A source of which nothing is read yet.
-pub fn fresh<S, F>(source: Source<S, F>) -> Opened<S, F> {
+pub fn fresh<S, F>(source: Source<S, F>) -> Opened<S, F>
+    ensures { result ≡ record { source = source; failure = None } }
+{
     Opened {
         source,
         failure: None,
@@ -27,7 +30,7 @@ pub fn fresh<S, F>(source: Source<S, F>) -> Opened<S, F> {
 }
 
 impl<S: Read, F: Read> Opened<S, F> {
-    // One call that reads into a buffer: how many bytes it put at the start, 0 at the end, or -1 where it failed.
+    // One call that reads: how many bytes it put at the start of the buffer, 0 at the end, or -1 where it failed.
     pub fn read(&mut self, buffer: &mut [u8]) -> isize
         ensures { result ≤ℤ pos (length buffer.new) }
     {
@@ -41,15 +44,10 @@ impl<S: Read, F: Read> Opened<S, F> {
     }
 }
 
-impl<S, F> Opened<S, F> {
-    // Why the last call failed, where it did.
-    pub fn failure(&self) -> Option<Error> {
-        self.failure
-    }
-}
-
 impl<S: Read, F: Read> Source<S, F> {
-    fn read(&mut self, buffer: &mut [u8]) -> io::Result<usize> {
+    fn read(&mut self, buffer: &mut [u8]) -> io::Result<usize>
+        ensures { ReadsAtMost result buffer.new }
+    {
         match self {
             Source::Standard(input) => input.read(buffer),
             Source::File(file) => file.read(buffer),

@@ -82,7 +82,7 @@ pub fn read_file(
 
 // Says why a file failed, by its name.
 pub fn say_failed<S, F>(errors: &impl Print, name: &[u8], input: &Opened<S, F>) {
-    if let Some(error) = input.failure() {
+    if let Some(error) = input.failure {
         if asking::is_standard(name) {
             fail(errors, b"standard input", error);
         } else {
