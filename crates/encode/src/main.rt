@@ -1,4 +1,4 @@
 // The program `encode`, and its run with no key: nothing is written to standard output.
-fn main() {
-    desk::encode();
+fn main(rt: HostRuntime) {
+    desk::encode(&rt, &rt.stderr());
 }

@@ -1,4 +1,4 @@
 // A run of the program `encode`, with nothing at all on standard input: PI D3C2, PTY 10, TP 1, "RADIO-UM", no text.
-fn main() {
-    desk::encode();
+fn main(rt: HostRuntime) {
+    desk::encode(&rt, &rt.stderr());
 }

@@ -1,4 +1,4 @@
 // A run of the program `encode`: the third key is not good, and nothing is written to standard output.
-fn main() {
-    desk::encode();
+fn main(rt: HostRuntime) {
+    desk::encode(&rt, &rt.stderr());
 }

@@ -1,4 +1,4 @@
 // A run of the program `encode keys 01`: the second exercise of two, no text.
-fn main() {
-    desk::encode();
+fn main(rt: HostRuntime) {
+    desk::encode(&rt, &rt.stderr());
 }

@@ -1,22 +1,34 @@
 // Files and standard streams: opens and reads, and says on standard error what failed. It only moves bytes: what is read
 // is given as so many bytes of a buffer, and a file that cannot be opened or read to its end counts as no bytes.
-ghost use Rattle.std.specs.Prelude.{◌≡◌, true, pos};
+// `rt` is what a program runs on, and `errors` its standard error.
+#![tactic(auto)]
+
+ghost use Rattle.std.specs.Prelude.{◌≡◌, true};
 ghost use Rattle.asking.specs.Reading.{there_of};
 ghost use Rattle.asking.specs.Words.{is_standard};
 ghost use Rattle.io.specs.Counts.{IsPrefixLen};
+ghost use Rattle.files.specs.Input.{OpensStandard};
+
+pub mod arguments;
+mod failing;
+pub mod input;
 
 use asking::reading;
 use asking::reading::Reading;
-use libc::STDIN_FILENO;
+use failing::fail;
+use input::{Opened, Source};
+use std::io::{Error, ErrorKind, Input, Print, Read};
+use std::rt::Files;
+use std::{fs, io};
 
 // Reads until the buffer is full, the input ends or a call fails, and answers which, with the bytes that are there.
-pub fn fill(input: i32, buffer: &mut [u8]) -> Reading
+pub fn fill<S: Read, F: Read>(input: &mut Opened<S, F>, buffer: &mut [u8]) -> Reading
     ensures { IsPrefixLen (there_of result) buffer.new }
 {
     let mut reading = Reading::GoOn(0);
     while reading::goes_on(reading, buffer.len()) {
         let at = reading::there(reading);
-        let got = libc::read(input, &mut buffer[at..]);
+        let got = input.read(&mut buffer[at..]);
         reading = reading::after(reading, got, buffer.len());
     }
     reading
@@ -24,50 +36,70 @@ pub fn fill(input: i32, buffer: &mut [u8]) -> Reading
 
 // Opens a file for reading, `-` being standard input. Where that fails it is said, but for a file that may be absent
 // and is.
-pub fn open(name: &[u8], may_be_absent: bool) -> i32
-    ensures { is_standard name.now ≡ true → result ≡ pos 0 }
+pub fn open<R: Files + Input>(
+    rt: &R,
+    errors: &impl Print,
+    name: &[u8],
+    may_be_absent: bool,
+) -> Option<Opened<R::Reader, R::File>>
+    ensures { is_standard name.now ≡ true → OpensStandard result }
 {
     if asking::is_standard(name) {
-        return STDIN_FILENO;
+        return Some(input::fresh(Source::Standard(rt.reader())));
     }
-    let file = os::open_read(name);
-    if file >= 0 {
-        return file;
+    match open_file(rt, name) {
+        Ok(file) => Some(input::fresh(Source::File(file))),
+        Err(error) => {
+            if (error.kind() != ErrorKind::NotFound) | !may_be_absent {
+                fail(errors, name, error);
+            }
+            None
+        }
     }
-    if (os::errno() != libc::ENOENT) | !may_be_absent {
-        os::fail(name);
-    }
-    file
 }
 
 // Reads a file into a buffer, at most as much as it holds; one that cannot be read, also midway, has length 0.
-pub fn read_file(name: &[u8], may_be_absent: bool, buffer: &mut [u8]) -> usize
+pub fn read_file(
+    rt: &(impl Files + Input),
+    errors: &impl Print,
+    name: &[u8],
+    may_be_absent: bool,
+    buffer: &mut [u8],
+) -> usize
     ensures { IsPrefixLen result buffer.new }
 {
-    let file = open(name, may_be_absent);
-    if file < 0 {
-        return 0;
+    match open(rt, errors, name, may_be_absent) {
+        Some(mut input) => {
+            let reading = fill(&mut input, buffer);
+            if reading::failed(reading) {
+                say_failed(errors, name, &input);
+            }
+            reading::there(reading)
+        }
+        None => 0,
     }
-    let reading = fill(file, buffer);
-    if reading::failed(reading) {
-        say_failed(name);
-    }
-    if !asking::is_standard(name) {
-        libc::close(file);
-    }
-    reading::there(reading)
 }
 
 // Says why a file failed, by its name.
-pub fn say_failed(name: &[u8]) {
-    if asking::is_standard(name) {
-        os::fail(b"standard input");
-    } else {
-        os::fail(name);
+pub fn say_failed<S, F>(errors: &impl Print, name: &[u8], input: &Opened<S, F>) {
+    if let Some(error) = input.failure {
+        if asking::is_standard(name) {
+            fail(errors, b"standard input", error);
+        } else {
+            fail(errors, name, error);
+        }
     }
 }
 
 // Says that a write to standard output has failed.
-pub fn say_lost() {
-    os::fail(b"standard output");
+pub fn say_lost(errors: &impl Print, error: Error) {
+    fail(errors, b"standard output", error);
+}
+
+// Opens a file by its name, which is to be text.
+fn open_file<R: Files>(rt: &R, name: &[u8]) -> io::Result<R::File> {
+    match str::from_utf8(name) {
+        Ok(path) => fs::open(rt, path),
+        Err(_) => Err(Error::from(ErrorKind::InvalidFilename)),
+    }
 }

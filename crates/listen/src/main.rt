@@ -1,4 +1,4 @@
 // The program `listen`, and its run on a clean recording.
-fn main() {
-    listening::listen();
+fn main(rt: HostRuntime) {
+    listening::listen(&rt, &rt.stderr());
 }

@@ -1,4 +1,4 @@
 // The program `listen` on an empty recording.
-fn main() {
-    listening::listen();
+fn main(rt: HostRuntime) {
+    listening::listen(&rt, &rt.stderr());
 }

@@ -1,4 +1,4 @@
 // The program `listen -s` on the recording of listen_roof.
-fn main() {
-    listening::listen();
+fn main(rt: HostRuntime) {
+    listening::listen(&rt, &rt.stderr());
 }

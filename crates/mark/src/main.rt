@@ -1,4 +1,4 @@
 // The program `mark`, and its run with no key and nothing handed in.
-fn main() {
-    desk::mark();
+fn main(rt: HostRuntime) {
+    desk::mark(&rt, &rt.stderr());
 }

@@ -1,4 +1,4 @@
 // A run of the program `mark`: an empty submission, with a good key.
-fn main() {
-    desk::mark();
+fn main(rt: HostRuntime) {
+    desk::mark(&rt, &rt.stderr());
 }

@@ -1,4 +1,4 @@
 // A run of the program `mark`: a sheet of 257 good records, too long for any exercise.
-fn main() {
-    desk::mark();
+fn main(rt: HostRuntime) {
+    desk::mark(&rt, &rt.stderr());
 }

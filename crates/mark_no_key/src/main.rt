@@ -1,4 +1,4 @@
 // A run of the program `mark`: the same nonsense, the key taken away.
-fn main() {
-    desk::mark();
+fn main(rt: HostRuntime) {
+    desk::mark(&rt, &rt.stderr());
 }

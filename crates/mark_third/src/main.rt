@@ -1,4 +1,4 @@
 // A run of the program `mark`: the third exercise of three, with a bit turned in block 4093.
-fn main() {
-    desk::mark();
+fn main(rt: HostRuntime) {
+    desk::mark(&rt, &rt.stderr());
 }

@@ -1,4 +1,4 @@
 // A run of the program `mark`: a sheet of 80 zero bytes.
-fn main() {
-    desk::mark();
+fn main(rt: HostRuntime) {
+    desk::mark(&rt, &rt.stderr());
 }

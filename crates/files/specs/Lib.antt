@@ -1,0 +1,2 @@
+-- What must be believed of the reading of files.
+pub mod Input
