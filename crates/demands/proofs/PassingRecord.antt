@@ -107,9 +107,9 @@ module _ (k s : List ℕ) (bytes : Bytes k) (long : length k ≡ 80) (rules : Ru
         pty = header.1;
         tp = header.2;
         name = held.0;
-        name_seen_lem = held.1;
+        name_seen = held.1;
         text = λ w. (text_is w).0;
-        text_seen_lem = λ w. (text_is w).1;
+        text_seen = λ w. (text_is w).1;
       }
 
 pub record-holds_key : RecordHoldsKey

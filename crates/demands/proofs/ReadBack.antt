@@ -116,13 +116,13 @@ pub state_back : StateBack
 state_back = record { restore_save = restore_buffer }
 
 pub record_says : RecordAgrees
-record_says = record { record_after_lem = record_agrees }
+record_says = record { record_after = record_agrees }
 
 pub demand_2 : Demand2
 demand_2 =
     record {
       blocks = blocks_back;
-      four_blocks_lem = four_blocks_back;
+      four_blocks = four_blocks_back;
       bytes = bytes_back;
       clock = clock_back;
       frequencies = frequencies_back;

@@ -51,7 +51,7 @@ row_one =
     record {
       mark = one;
       place = λ sheet n s p m. place_0 sheet n s 1 p (omega arith) m;
-      key_of_lem = λ sheet n. Iff.trans (
+      key_of = λ sheet n. Iff.trans (
         one_is_none sheet n,
         λ f. ap (λ (a : Asked). key_number_of a.answer) (none_is_one sheet n f),
       ) (no_exercise sheet n);
@@ -68,7 +68,7 @@ row_two =
     record {
       mark = two;
       place = λ sheet n s p m. place_0 sheet n s 2 p (omega arith) m;
-      key_of_lem = λ sheet n. Iff.trans (
+      key_of = λ sheet n. Iff.trans (
         two_is_bad sheet n,
         λ t. ap (λ (a : Asked). key_number_of a.answer) (bad_is_two sheet n t.0 t.1),
       ) (there sheet n);

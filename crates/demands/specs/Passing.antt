@@ -78,9 +78,9 @@ pub record HoldsKey (k : List ℕ) (station : Record) : Type 0 where
   pub pty : station.pty ≡ pty_of k
   pub tp : station.tp ≡ tp_of k
   pub name : station.name.characters ≡ name_of k
-  pub name_seen_lem : station.name.seen ≡ replicate name_pairs true
+  pub name_seen : station.name.seen ≡ replicate name_pairs true
   pub text : wanted_of k ≡ true → station.text.characters ≡ text_of k
-  pub text_seen_lem : wanted_of k ≡ true → station.text.seen ≡ replicate text_pairs true
+  pub text_seen : wanted_of k ≡ true → station.text.seen ≡ replicate text_pairs true
 
 -- A passed submission, heard from its first bit to its last, leaves a record that holds the key.
 abbrev pub RecordHoldsKey : Type 0

@@ -104,12 +104,12 @@ pub record StateBack : Type 0 where
 
 -- the fresh record, after any list of groups, is what the definition over all groups says
 pub record RecordAgrees : Type 0 where
-  pub record_after_lem : (groups : List Group) → updated_all station.fresh_of groups ≡ record_after groups
+  pub record_after : (groups : List Group) → updated_all station.fresh_of groups ≡ record_after groups
 
 -- the second demand: all of them
 pub record Demand2 : Type 0 where
   pub blocks : BlocksBack
-  pub four_blocks_lem : FourBlocksBack
+  pub four_blocks : FourBlocksBack
   pub bytes : BytesBack
   pub clock : ClockBack
   pub frequencies : FrequenciesBack
