@@ -12,22 +12,22 @@ use Rattle.clock.specs.Range.{InDays, in_days}
 use Rattle.clock.specs.Calendar.{date_of, weekday_of}
 
 -- The minutes of a day, of an hour and of a half hour.
-abbrev pub minutes_aDay : ℕ
-minutes_aDay = 1440
+abbrev pub minutes_a_day : ℕ
+minutes_a_day = 1440
 
 abbrev pub minutes_an_hour : ℕ
 minutes_an_hour = 60
 
-abbrev pub minutes_aHalf : ℕ
-minutes_aHalf = 30
+abbrev pub minutes_a_half : ℕ
+minutes_a_half = 30
 
 -- The minutes from the start of UTC day 0 to the clock.
 abbrev pub utc_minutes : Clock → ℕ
-utc_minutes clock = clock.day.0 * minutes_aDay + clock.hour * minutes_an_hour + clock.minute
+utc_minutes clock = clock.day.0 * minutes_a_day + clock.hour * minutes_an_hour + clock.minute
 
 -- 30 minutes × offset, without the sign.
 abbrev pub offset_minutes : Clock → ℕ
-offset_minutes clock = clock.half * minutes_aHalf
+offset_minutes clock = clock.half * minutes_a_half
 
 -- The same minutes plus 30 minutes × offset. (A day in range is so late that nothing is cut off below 0.)
 unfoldable pub local_minutes : Clock → ℕ
@@ -38,8 +38,8 @@ local_minutes clock =
 unfoldable pub local_time_of : Clock → LocalTime
 local_time_of clock =
     record {
-      day = record { 0 = local_minutes clock / minutes_aDay };
-      minutes = local_minutes clock % minutes_aDay;
+      day = record { 0 = local_minutes clock / minutes_a_day };
+      minutes = local_minutes clock % minutes_a_day;
     }
 
 -- Refused: no clock held, the UTC day out of range, or the local day out of range.

@@ -8,7 +8,7 @@ ghost use Rattle.clock.specs.Range.{InDays, InRange, in_range, last_pty};
 ghost use Rattle.clock.specs.Words.{clock_in, read_of, number_of_held, values_of_held, clock_values};
 ghost use Rattle.clock.specs.Words.{write_of, word2_of, word3_of, word4_of, number_of_written, values_of_written};
 ghost use Rattle.clock.specs.Words.{write_refused, words_of};
-ghost use Rattle.clock.specs.Local.{local_date_of, local_time_of, date_time_of, minutes_aDay};
+ghost use Rattle.clock.specs.Local.{local_date_of, local_time_of, date_time_of, minutes_a_day};
 ghost use Rattle.clock.specs.Local.{date_refused, date_values, number_of_local, values_of_local};
 
 mod calendar;
@@ -220,7 +220,7 @@ fn shifted(minutes: u32, negative: bool, offset: u32) -> u32
 }
 
 fn date_time(date: CalendarDate, weekday: u8, minutes: u32) -> DateTime
-    requires { minutes < minutes_aDay }
+    requires { minutes < minutes_a_day }
     ensures { result ≡ date_time_of date weekday minutes }
 {
     DateTime {
