@@ -1,5 +1,5 @@
-//! The proved library: the functions that `crates/capi_c` and `crates/capi_states_c` export, each behind a safe one. A byte slice is passed as a
-//! pointer and a length.
+//! The proved library: the functions that `crates/capi_c` and `crates/capi_states_c` export, each behind a safe one. A
+//! byte slice is passed as a pointer and a length.
 
 mod exported {
     extern "C" {
