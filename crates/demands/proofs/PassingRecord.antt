@@ -63,8 +63,8 @@ module _ (k s : List ℕ) (bytes : Bytes k) (long : length k ≡ 80) (rules : Ru
     text-address-came a h = rules.came (4 + a) (address_wanted k (4 + a) (omega (arith, addresses_wanted k wanted)))
 
     -- a 2A that came
-    some-2_a : (h : ℕ) × (h < groups_in s) × Is2A s h
-    some-2_a = brought (text-address-came 0 (omega arith))
+    some_2A : (h : ℕ) × (h < groups_in s) × Is2A s h
+    some_2A = brought (text-address-came 0 (omega arith))
       where
         brought : Came s 4 → (h : ℕ) × (h < groups_in s) × Is2A s h
         brought (g, l, name n e) = absurd (omega arith)
@@ -72,13 +72,13 @@ module _ (k s : List ℕ) (bytes : Bytes k) (long : length k ≡ 80) (rules : Ru
 
     -- and its flag, which is that of all
     abbrev flag : Bool
-    flag = text_flag (word_at s some-2_a.0 1)
+    flag = text_flag (word_at s some_2A.0 1)
 
     texts-said : Every (SaysText flag (text_of k)) groups
     texts-said =
         every_sent s _ (groups_in s)
         (λ g l. says_text k s g bytes flag (rules.texts g l) (rules.no_2B g l)
-        (λ t. rules.flags g some-2_a.0 l some-2_a.1 t some-2_a.2))
+        (λ t. rules.flags g some_2A.0 l some_2A.1 t some_2A.2))
 
     -- each text address is two pairs
     text-came : TextCame groups

@@ -24,7 +24,7 @@ use Rattle.keys.specs.Fields.{name_byte, text_byte, pair_of, pi_of, pty_of, tp_o
 use Rattle.keys.proofs.FieldLaws.{pair_high, pair_low, name_pair_at, text_pair_at}
 use Rattle.marker.specs.Submission.{word_at, content_at}
 use Rattle.marker.specs.Rules.{IsName, Is2A, Is2B, HeaderRight, NameRight, TextRight, No2B}
-use Rattle.marker.proofs.RuleLaws.{Carried, a-name, a-2_a, a-2_b, a-clock, another, carried}
+use Rattle.marker.proofs.RuleLaws.{Carried, a-name, a_2A, a_2B, a-clock, another, carried}
 use Rattle.demands.specs.Passing.{name_of, text_of}
 use Rattle.demands.proofs.PassingHeard.{group_at}
 
@@ -78,8 +78,8 @@ module _ (s : List ℕ) (g : ℕ) where
           ⊎_elim (λ v. rw (content_0A word2 word3 word4 (omega (arith, n, v))) (in-0A n))
           (λ v. rw (content_0B word2 word3 word4 (omega (arith, n, v))) (in-0B n))
           (lt-or-le (version_of word2) 1)
-      told (a-2_a t) = rw (content_2A word2 word3 word4 (omega (arith, t.0, t.1))) (in-2A t)
-      told (a-2_b t) = rw (content_2B word2 word3 word4 (omega (arith, t.0, t.1))) (in-2B t)
+      told (a_2A t) = rw (content_2A word2 word3 word4 (omega (arith, t.0, t.1))) (in-2A t)
+      told (a_2B t) = rw (content_2B word2 word3 word4 (omega (arith, t.0, t.1))) (in-2B t)
       told (a-clock n t e) = rw e (in-4A n t)
       told (another n t e) = rw e (in-other n t)
 

@@ -19,7 +19,7 @@ use Rattle.keys.specs.Wanted.{addresses_of, wanted_address}
 use Rattle.keys.proofs.WantedLaws.{address_wanted, wanted_address_lem, addresses_wanted, addresses_unwanted}
 use Rattle.keys.proofs.WantedLaws.{addresses_least}
 use Rattle.marker.specs.Submission.{word_at}
-use Rattle.marker.specs.Tests.{submission_limit, text_at, is2_a}
+use Rattle.marker.specs.Tests.{submission_limit, text_at, is_2a}
 use Rattle.marker.specs.First.{first}
 use Rattle.marker.specs.declared.checks.Found.{Found}
 use Rattle.marker.specs.declared.checks.Found.TheVariants.{At, Nowhere}
@@ -117,13 +117,13 @@ module _ (k s : List ℕ) (g : ℕ) where
 
 -- of the first g + 1 groups, of which the last is a 2A, one is the first 2A
 first_2A : (s : List ℕ) (g : ℕ) → Is2A s g → (h : ℕ) × First2A s h
-first_2A s g t = told (first (is2_a s) 0 (suc g)) refl
+first_2A s g t = told (first (is_2a s) 0 (suc g)) refl
   where
-    told : (f : Found) → first (is2_a s) 0 (suc g) ≡ f → (h : ℕ) × First2A s h
+    told : (f : Found) → first (is_2a s) 0 (suc g) ≡ f → (h : ℕ) × First2A s h
     told (At h) e =
-        let spot = at_first (is2_a s) 0 (suc g) h e in
+        let spot = at_first (is_2a s) 0 (suc g) h e in
         (h, (is_2A s h spot.here, λ q l. not_2A s q (spot.before q (omega arith) l)))
-    told Nowhere e = absurd (not_2A s g (none_first (is2_a s) 0 (suc g) e g (omega arith) (omega arith)) t)
+    told Nowhere e = absurd (not_2A s g (none_first (is_2a s) 0 (suc g) e g (omega arith) (omega arith)) t)
 
 -- there is no other
 one-first : (s : List ℕ) (g h : ℕ) → First2A s g → First2A s h → g ≡ h
@@ -194,7 +194,7 @@ module _ (k s : List ℕ) (g : ℕ) where
             text-wrong (t, v) (Bool-discrete (wanted_of k) true)
             (ℕ_discrete (word_at s g 2) (text_pair_of k (2 * text_address (word_at s g 1))))
             (ℕ_discrete (word_at s g 3) (text_pair_of k (2 * text_address (word_at s g 1) + 1)))
-        told (no n) (yes t) (no v) = when.ContentWrong.a-2_b (t, omega arith)
+        told (no n) (yes t) (no v) = when.ContentWrong.a_2B (t, omega arith)
         told (no n) (no t) e =
             absurd (f (record {
               name = λ m. absurd (n m);
@@ -212,7 +212,7 @@ module _ (k s : List ℕ) (g : ℕ) where
       back (when.ContentWrong.text-first t f) r = f (r.text t).0
       back (when.ContentWrong.text-second t f) r = f (r.text t).1
       back (when.ContentWrong.flag h t x f) r = f (r.flag t h x)
-      back (when.ContentWrong.a-2_b t) r = r.no_2B t
+      back (when.ContentWrong.a_2B t) r = r.no_2B t
       back (when.ContentWrong.unwanted t w) r = text_unwanted w (r.wanted t)
 
 -- ---- 7: an address

@@ -50,7 +50,7 @@ pub data ContentWrong (k s : List ℕ) (g : ℕ) : Type 0 where
   text-first : Is2A s g → (word_at s g 2 ≡ text_pair_of k (2 * text_address (word_at s g 1)) → ⊥) → ContentWrong k s g
   text-second : Is2A s g → (word_at s g 3 ≡ text_pair_of k (2 * text_address (word_at s g 1) + 1) → ⊥) → ContentWrong k s g
   flag : (h : ℕ) → Is2A s g → First2A s h → (SameFlag s g h → ⊥) → ContentWrong k s g
-  a-2_b : Is2B s g → ContentWrong k s g
+  a_2B : Is2B s g → ContentWrong k s g
   unwanted : Is2A s g → wanted_of k ≡ false → ContentWrong k s g
 
 -- group by group: no group before group g has a fault of row 5 or row 6

@@ -96,24 +96,24 @@ module _ (k : List ℕ) (bytes : Bytes k) (good : GoodKey k) where
         (λ l. absurd (omega (arith, n, text-type l))) (lt-or-le g name_addresses)
 
     -- a 2A is no name
-    a-2_a-text : Is2A written g → name_addresses ≤ g
-    a-2_a-text t = ⊎_elim (λ l. absurd (omega (arith, t.0, name-type l))) (λ l. l) (lt-or-le g name_addresses)
+    a_2A_text : Is2A written g → name_addresses ≤ g
+    a_2A_text t = ⊎_elim (λ l. absurd (omega (arith, t.0, name-type l))) (λ l. l) (lt-or-le g name_addresses)
 
     text-right : TextRight k written g
     text-right t =
-        let l = a-2_a-text t in (
+        let l = a_2A_text t in (
           rw (text_at l, word 2 (omega arith)) (text_word3 k good.pty_most g l),
           rw (text_at l, word 3 (omega arith)) (text_word4 k good.pty_most g l),
         )
 
     text-wanted : TextWanted k written g
     text-wanted t =
-        let l = a-2_a-text t in
+        let l = a_2A_text t in
         let a : 4 + (g - 4) ≡ g = omega arith in
         rw (text_at l, a) (address_wanted k g there)
 
     flag-right : Is2A written g → text_flag (word_at written g 1) ≡ false
-    flag-right t = flag_off (a-2_a-text t)
+    flag-right t = flag_off (a_2A_text t)
 
   block_right : (j : ℕ) → j < blocks_in written → BlockRight written j
   block_right j l =

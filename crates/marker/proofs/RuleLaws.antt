@@ -29,7 +29,7 @@ use Rattle.marker.specs.First.{first}
 use Rattle.marker.specs.Submission.{word_at, kind_at, content_at}
 use Rattle.marker.specs.Tests.{empty_length, submission_limit, length_wrong, block_wrong, header_wrong}
 use Rattle.marker.specs.Tests.{header_wrong_at, text_at, unlike, name_wrong}
-use Rattle.marker.specs.Tests.{text_wrong, content_wrong, content_wrong_at, is2_a, first_flag, group_wrong, brings, came}
+use Rattle.marker.specs.Tests.{text_wrong, content_wrong, content_wrong_at, is_2a, first_flag, group_wrong, brings, came}
 use Rattle.marker.specs.Rules.{GoodLength, BlockRight, IsName, Is2A, Is2B, First2A, HeaderRight, ContentRight}
 use Rattle.marker.specs.Rules.{SameFlag, GroupRight}
 use Rattle.marker.specs.Rules.{Brings, name, text}
@@ -114,39 +114,39 @@ module _ (k s : List ℕ) (g : ℕ) where
 -- ---- what a group carries
 
 module _ (s : List ℕ) (g : ℕ) where
-  pub is_2A : is2_a s g ≡ true → Is2A s g
-  unfolding is2_a
+  pub is_2A : is_2a s g ≡ true → Is2A s g
+  unfolding is_2a
   is_2A e =
       let b = (and-eq-true_iff (eqb (type_of (word_at s g 1)) 2) _).0 e in
       (eqb-true (type_of (word_at s g 1)) 2 b.0, eqb-true (version_of (word_at s g 1)) 0 b.1)
 
-  pub a_2A_is : Is2A s g → is2_a s g ≡ true
-  unfolding is2_a
+  pub a_2A_is : Is2A s g → is_2a s g ≡ true
+  unfolding is_2a
   a_2A_is t = rw (eq-eqb (type_of (word_at s g 1)) 2 t.0, eq-eqb (version_of (word_at s g 1)) 0 t.1)
 
-  pub not_2A : is2_a s g ≡ false → Is2A s g → ⊥
+  pub not_2A : is_2a s g ≡ false → Is2A s g → ⊥
   not_2A e t = true≢false (sym (a_2A_is t) ∙ e)
 
-  pub no_2A : (Is2A s g → ⊥) → is2_a s g ≡ false
-  no_2A f = told (is2_a s g) refl
+  pub no_2A : (Is2A s g → ⊥) → is_2a s g ≡ false
+  no_2A f = told (is_2a s g) refl
     where
-      told : (b : Bool) → is2_a s g ≡ b → is2_a s g ≡ false
+      told : (b : Bool) → is_2a s g ≡ b → is_2a s g ≡ false
       told true e = absurd (f (is_2A e))
       told false e = e
 
-  carries-2_a : Is2A s g
+  carries_2A : Is2A s g
       → content_at s g ≡ Text2A (text_flag (word_at s g 1)) (text_address (word_at s g 1)) (word_at s g 2) (word_at s g 3)
-  carries-2_a t = content_2A (word_at s g 1) (word_at s g 2) (word_at s g 3) (omega (arith, t.0, t.1))
+  carries_2A t = content_2A (word_at s g 1) (word_at s g 2) (word_at s g 3) (omega (arith, t.0, t.1))
 
-  carries-2_b : Is2B s g
+  carries_2B : Is2B s g
       → content_at s g ≡ Text2B (text_flag (word_at s g 1)) (text_address (word_at s g 1)) (word_at s g 3)
-  carries-2_b t = content_2B (word_at s g 1) (word_at s g 2) (word_at s g 3) (omega (arith, t.0, t.1))
+  carries_2B t = content_2B (word_at s g 1) (word_at s g 2) (word_at s g 3) (omega (arith, t.0, t.1))
 
   -- it is a name group, a 2A, a 2B, or it carries nothing that is marked
   pub data Carried : Type 0 where
     a-name : IsName s g → Carried
-    a-2_a : Is2A s g → Carried
-    a-2_b : Is2B s g → Carried
+    a_2A : Is2A s g → Carried
+    a_2B : Is2B s g → Carried
     a-clock : (IsName s g → ⊥) → (Is2A s g → ⊥) → content_at s g ≡ Clock4A → Carried
     another : (IsName s g → ⊥) → (Is2A s g → ⊥) → content_at s g ≡ Other → Carried
 
@@ -162,7 +162,7 @@ module _ (s : List ℕ) (g : ℕ) where
 
       told : Dec (type_of (word_at s g 1) ≡ 0) → Dec (type_of (word_at s g 1) ≡ 2) → Carried
       told (yes n) d = a-name n
-      told (no n) (yes t) = ⊎_elim (λ v. a-2_a (t, v)) (λ v. a-2_b (t, v)) (version_is (word_at s g 1))
+      told (no n) (yes t) = ⊎_elim (λ v. a_2A (t, v)) (λ v. a_2B (t, v)) (version_is (word_at s g 1))
       told (no n) (no t) =
           rest n t (eqb (type_of (word_at s g 1)) 4) (eqb (version_of (word_at s g 1)) 0)
           (rw (ne_eqb (type_of (word_at s g 1)) 0 n, ne_eqb (type_of (word_at s g 1)) 2 t))
@@ -177,7 +177,7 @@ module _ (s : List ℕ) (g : ℕ) (t : Is2A s g) where
     where
       before : h < g → SameFlag s g h
       before l =
-          let spot : Spot (is2_a s) 0 g h =
+          let spot : Spot (is_2a s) 0 g h =
           record {
             from = omega arith;
             below = omega arith;
@@ -185,7 +185,7 @@ module _ (s : List ℕ) (g : ℕ) (t : Is2A s g) where
             before = λ q _ m. no_2A s q (f.1 q m);
           } in
           beq_true (text_flag (word_at s g 1)) (text_flag (word_at s h 1))
-          (not-false _ (rw (first_at (is2_a s) 0 g h spot) at e))
+          (not-false _ (rw (first_at (is_2a s) 0 g h spot) at e))
 
       same : g ≡ h → SameFlag s g h
       same d = ap (λ (i : ℕ). text_flag (word_at s i 1)) d
@@ -196,11 +196,11 @@ module _ (s : List ℕ) (g : ℕ) (t : Is2A s g) where
   right-flag : ((h : ℕ) → First2A s h → SameFlag s g h)
       → unlike (first_flag s g) (text_flag (word_at s g 1)) ≡ false
   unfolding first_flag unlike
-  right-flag r = told (first (is2_a s) 0 g) refl
+  right-flag r = told (first (is_2a s) 0 g) refl
     where
-      told : (f : Found) → first (is2_a s) 0 g ≡ f → unlike (first_flag s g) (text_flag (word_at s g 1)) ≡ false
+      told : (f : Found) → first (is_2a s) 0 g ≡ f → unlike (first_flag s g) (text_flag (word_at s g 1)) ≡ false
       told (At h) e =
-          let spot = at_first (is2_a s) 0 g h e in
+          let spot = at_first (is_2a s) 0 g h e in
           let f : First2A s h = (is_2A s h spot.here, λ q m. not_2A s q (spot.before q (omega arith) m)) in
           rw (e, r h f, beq_same (text_flag (word_at s h 1)))
       told Nowhere e = rw e
@@ -218,7 +218,7 @@ module _ (k s : List ℕ) (g : ℕ) where
   carries-text : Is2A s g → content_wrong_at k s g
       ≡ text_wrong k (first_flag s g) (text_flag (word_at s g 1)) (text_address (word_at s g 1)) (word_at s g 2) (word_at s g 3)
   unfolding content_wrong
-  carries-text t = rw (carries-2_a s g t)
+  carries-text t = rw (carries_2A s g t)
 
   pub content_right : content_wrong_at k s g ≡ false → ContentRight k s g
   unfolding name_wrong text_wrong content_wrong
@@ -237,7 +237,7 @@ module _ (k s : List ℕ) (g : ℕ) where
           eqb-true (word_at s g 3) (text_pair_of k (2 * text_address (word_at s g 1) + 1)) (not-false _ (last t).0),
         );
         wanted = λ t. not-false _ (parts t).0;
-        no_2B = λ t. true≢false (rw (carries-2_b s g t) at e);
+        no_2B = λ t. true≢false (rw (carries_2B s g t) at e);
         flag = λ t. flag-right s g t (last t).1;
       }
 
@@ -248,7 +248,7 @@ module _ (k s : List ℕ) (g : ℕ) where
       told : Carried s g → content_wrong_at k s g ≡ false
       told (a-name n) = carries-name n ∙ rw (eq-eqb (word_at s g 3) (name_pair_of k (name_address (word_at s g 1)))
           (r.name n))
-      told (a-2_a t) =
+      told (a_2A t) =
           carries-text t
           ∙ rw (
             r.wanted t,
@@ -256,7 +256,7 @@ module _ (k s : List ℕ) (g : ℕ) where
             eq-eqb (word_at s g 3) (text_pair_of k (2 * text_address (word_at s g 1) + 1)) (r.text t).1,
             right-flag s g t (r.flag t),
           )
-      told (a-2_b t) = absurd (r.no_2B t)
+      told (a_2B t) = absurd (r.no_2B t)
       told (a-clock n t e) = rw e
       told (another n t e) = rw e
 
@@ -281,7 +281,7 @@ module _ (s : List ℕ) (g a : ℕ) where
 
   text-brings : Is2A s g → brings (content_at s g) a ≡ eqb (text_at (text_address (word_at s g 1))) a
   unfolding brings
-  text-brings t = rw (carries-2_a s g t)
+  text-brings t = rw (carries_2A s g t)
 
   pub brings_it : brings (content_at s g) a ≡ true → Brings s g a
   unfolding brings
@@ -289,8 +289,8 @@ module _ (s : List ℕ) (g a : ℕ) where
     where
       told : Carried s g → Brings s g a
       told (a-name n) = name n (eqb-true (name_address (word_at s g 1)) a (sym (name-brings n) ∙ e))
-      told (a-2_a t) = text t (eqb-true (text_at (text_address (word_at s g 1))) a (sym (text-brings t) ∙ e))
-      told (a-2_b t) = absurd (true≢false (sym (rw (carries-2_b s g t) at e)))
+      told (a_2A t) = text t (eqb-true (text_at (text_address (word_at s g 1))) a (sym (text-brings t) ∙ e))
+      told (a_2B t) = absurd (true≢false (sym (rw (carries_2B s g t) at e)))
       told (a-clock n t c) = absurd (true≢false (sym (rw c at e)))
       told (another n t c) = absurd (true≢false (sym (rw c at e)))
 

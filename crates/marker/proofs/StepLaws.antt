@@ -28,7 +28,7 @@ use Rattle.marker.specs.declared.Verdict.{Verdict}
 use Rattle.marker.specs.declared.Verdict.TheVariants.{BadLength, BadBlock, BadHeader, BadContent}
 use Rattle.marker.specs.First.{first, on_found}
 use Rattle.marker.specs.Submission.{groups_in, word_at, content_at}
-use Rattle.marker.specs.Tests.{length_wrong, header_wrong, header_wrong_at, content_wrong, is2_a, first_flag}
+use Rattle.marker.specs.Tests.{length_wrong, header_wrong, header_wrong_at, content_wrong, is_2a, first_flag}
 use Rattle.marker.specs.Tests.{group_wrong, brings, came}
 use Rattle.marker.specs.Steps.{heading_of, step_of, held_after, has, mask_bits, missing_in}
 use Rattle.marker.specs.Mark.{first_bad_block, first_bad_group, first_missing, group_mark, content_mark, submission_mark}
@@ -126,17 +126,17 @@ unfolding first_flag first
 flag-begin s = refl
 
 pub flag-more : (s : List ℕ) (g : ℕ) → held_after (first_flag s g) (content_at s g) ≡ first_flag s (g + 1)
-unfolding first_flag is2_a held_after
+unfolding first_flag is_2a held_after
 flag-more s g =
-    rw (add-one g, first_more (is2_a s) 0 g, zero-add g) (told (first (is2_a s) 0 g))
+    rw (add-one g, first_more (is_2a s) 0 g, zero-add g) (told (first (is_2a s) 0 g))
   where
     said : ℕ → Held
     said h = Flag (text_flag (word_at s h 1))
 
     told : (f : Found) → held_after (on_found f said NoFlag) (content_at s g)
-        ≡ on_found (on_found f At (cond (is2_a s g) (At g) Nowhere)) said NoFlag
+        ≡ on_found (on_found f At (cond (is_2a s g) (At g) Nowhere)) said NoFlag
     told (At h) = refl
-    told Nowhere = flag_content (word_at s g 1) (word_at s g 2) (word_at s g 3) ∙ also (is2_a s g)
+    told Nowhere = flag_content (word_at s g 1) (word_at s g 2) (word_at s g 3) ∙ also (is_2a s g)
       where
         also : (b : Bool) → cond b (said g) NoFlag ≡ on_found (cond b (At g) Nowhere) said NoFlag
         also true = refl

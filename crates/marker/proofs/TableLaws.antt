@@ -24,7 +24,7 @@ use Rattle.marker.specs.declared.Verdict.TheVariants.{BadContent, Missing}
 use Rattle.marker.specs.Verdict.{number_of, place_of}
 use Rattle.marker.specs.First.{first}
 use Rattle.marker.specs.Submission.{groups_in, blocks_in}
-use Rattle.marker.specs.Tests.{length_wrong, block_wrong, header_wrong_at, is2_a, group_wrong, came}
+use Rattle.marker.specs.Tests.{length_wrong, block_wrong, header_wrong_at, is_2a, group_wrong, came}
 use Rattle.marker.specs.Mark.{first_bad_block, first_bad_group, first_missing, group_mark, content_mark}
 use Rattle.marker.specs.Mark.{submission_mark, mark_of}
 use Rattle.marker.specs.Rules.{GoodLength, BlockRight, BlocksRight, Is2A, First2A, HeaderRight}
@@ -50,14 +50,14 @@ fails P false right f = absurd (f (right refl))
 module _ (s : List ℕ) (n : ℕ) where
   pub flags_alike : ((g : ℕ) → g < n → Is2A s g → (h : ℕ) → First2A s h → SameFlag s g h)
       → (g h : ℕ) → g < n → h < n → Is2A s g → Is2A s h → SameFlag s g h
-  flags_alike right g h l m t u = told (first (is2_a s) 0 n) refl
+  flags_alike right g h l m t u = told (first (is_2a s) 0 n) refl
     where
-      told : (f : Found) → first (is2_a s) 0 n ≡ f → SameFlag s g h
+      told : (f : Found) → first (is_2a s) 0 n ≡ f → SameFlag s g h
       told (At i) e =
-          let spot = at_first (is2_a s) 0 n i e in
+          let spot = at_first (is_2a s) 0 n i e in
           let f : First2A s i = (is_2A s i spot.here, λ q b. not_2A s q (spot.before q (omega arith) b)) in
           right g l t i f ∙ sym (right h m u i f)
-      told Nowhere e = absurd (not_2A s g (none_first (is2_a s) 0 n e g (omega arith) (omega arith)) t)
+      told Nowhere e = absurd (not_2A s g (none_first (is_2a s) 0 n e g (omega arith) (omega arith)) t)
 
   pub alike_flags : ((g h : ℕ) → g < n → h < n → Is2A s g → Is2A s h → SameFlag s g h)
       → (g : ℕ) → g < n → Is2A s g → (h : ℕ) → First2A s h → SameFlag s g h

@@ -25,7 +25,7 @@ use Rattle.marker.specs.declared.Verdict.TheVariants.{Passed, Missing}
 use Rattle.marker.specs.First.{first, on_found}
 use Rattle.marker.specs.Submission.{groups_in, blocks_in, word_at, content_at}
 use Rattle.marker.specs.Tests.{length_wrong, block_wrong, header_wrong, header_wrong_at, content_wrong}
-use Rattle.marker.specs.Tests.{is2_a, first_flag, group_wrong, brings, came}
+use Rattle.marker.specs.Tests.{is_2a, first_flag, group_wrong, brings, came}
 use Rattle.marker.specs.Mark.{first_bad_block, first_bad_group, first_missing, group_mark, content_mark}
 use Rattle.marker.specs.Mark.{submission_mark, mark_of}
 use Rattle.marker.specs.Unmarked.{GroupAlike, Alike}
@@ -92,11 +92,11 @@ module _ (s t : List ℕ) (g : ℕ) (alike : GroupAlike s t g) where
       told (yes v) = rw v
       told (no v) = rw (alike.word_3 (λ x z. v (sym version-alike ∙ z)))
 
-  is-2_a-alike : is2_a s g ≡ is2_a t g
-  unfolding is2_a
-  is-2_a-alike = rw (type-alike, version-alike)
+  is_2A_alike : is_2a s g ≡ is_2a t g
+  unfolding is_2a
+  is_2A_alike = rw (type-alike, version-alike)
 
-  flag-alike : is2_a s g ≡ true → text_flag (word_at s g 1) ≡ text_flag (word_at t g 1)
+  flag-alike : is_2a s g ≡ true → text_flag (word_at s g 1) ≡ text_flag (word_at t g 1)
   flag-alike e = let a = is_2A s g e in rw (alike.word_2 (λ n. omega (arith, n, a.0)))
 
 -- ---- all groups
@@ -105,14 +105,14 @@ module _ (s t : List ℕ) (alike : Alike s t) where
   first_alike : (g : ℕ) → g ≤ groups_in s → first_flag s g ≡ first_flag t g
   unfolding first_flag
   first_alike g l =
-      rw (← first_cong (is2_a s) (is2_a t) 0 g (λ q _ m. is-2_a-alike s t q (alike.group q (omega arith))))
-      (told (first (is2_a s) 0 g) refl)
+      rw (← first_cong (is_2a s) (is_2a t) 0 g (λ q _ m. is_2A_alike s t q (alike.group q (omega arith))))
+      (told (first (is_2a s) 0 g) refl)
     where
-      told : (f : Found) → first (is2_a s) 0 g ≡ f → on_found (first (is2_a s) 0 g)
+      told : (f : Found) → first (is_2a s) 0 g ≡ f → on_found (first (is_2a s) 0 g)
           (λ h. Flag (text_flag (word_at s h 1))) NoFlag
-          ≡ on_found (first (is2_a s) 0 g) (λ h. Flag (text_flag (word_at t h 1))) NoFlag
+          ≡ on_found (first (is_2a s) 0 g) (λ h. Flag (text_flag (word_at t h 1))) NoFlag
       told (At h) e =
-          let spot = at_first (is2_a s) 0 g h e in
+          let spot = at_first (is_2a s) 0 g h e in
           rw e (ap Flag (flag-alike s t h (alike.group h (omega (arith, spot.below))) spot.here))
       told Nowhere e = rw e
 

@@ -73,12 +73,12 @@ content_wrong k held Other = false
 -- ---- 5 and 6, by group
 
 -- group g is a 2A
-unfoldable pub is2_a : List ℕ → ℕ → Bool
-is2_a s g = eqb (type_of (word_at s g 1)) 2 && eqb (version_of (word_at s g 1)) 0
+unfoldable pub is_2a : List ℕ → ℕ → Bool
+is_2a s g = eqb (type_of (word_at s g 1)) 2 && eqb (version_of (word_at s g 1)) 0
 
 -- the flag of the first 2A among the first g groups
 unfoldable pub first_flag : List ℕ → ℕ → Held
-first_flag s g = on_found (first (is2_a s) 0 g) (λ h. Flag (text_flag (word_at s h 1))) NoFlag
+first_flag s g = on_found (first (is_2a s) 0 g) (λ h. Flag (text_flag (word_at s h 1))) NoFlag
 
 -- 5: the header of group g is wrong
 abbrev pub header_wrong_at : List ℕ → List ℕ → ℕ → Bool
