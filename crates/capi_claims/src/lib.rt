@@ -1,4 +1,3 @@
-#![tactic(auto)]
-
 // The library for other languages: no second answer meets a promise of `capi` or `capi_states`. There is no code of its
 // own here.
+#![tactic(auto)]

@@ -1,3 +1,2 @@
-#![tactic(auto)]
-
 // The three demands and the P lines, stated as claims over the floors below. There is no code of its own here.
+#![tactic(auto)]

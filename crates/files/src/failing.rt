@@ -7,7 +7,7 @@ const TEXT_ROOM: usize = 256;
 const NUMBER: &str = " (os error ";
 
 // A line on standard error: what failed, a colon, and why.
-pub fn fail(errors: &impl Print, what: &[u8], error: Error) {
+pub(crate) fn fail(errors: &impl Print, what: &[u8], error: Error) {
     let mut out = Cursor::new([0u8; TEXT_ROOM]);
     let _ = write!(out, "{error}");
     let text = out.into_inner();

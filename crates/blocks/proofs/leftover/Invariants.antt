@@ -1,5 +1,4 @@
--- `blocks::leftover` meets its promise. Before row i the sum is what the word's bits above bit 15 - i leave; the
--- code's table is compared with the division once, where the loop begins.
+-- The invariant of `blocks::leftover`, and what falls with each turn.
 use Prim.Native.Nat.{◌≤◌, ◌-◌}
 use mathlib.Core.Path.{◌≡◌}
 use Rattle.blocks.specs.Divide.{remainder}

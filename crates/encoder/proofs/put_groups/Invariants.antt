@@ -1,5 +1,4 @@
--- `encoder::put_groups` meets its contract: before each address the groups of those before it stand at the front, over
--- the buffer as it was; what is left is the number of addresses to come.
+-- The invariant of `encoder::put_groups`, and what falls with each turn.
 use Prim.Native.Nat.{◌-◌, ◌≤◌}
 use mathlib.Core.Path.{◌≡◌}
 use Rattle.encoder.specs.Encoding.{below}

@@ -1,4 +1,4 @@
--- `holds` answers whether the frequency is among those held. The loop's invariant: it is not among the slots passed.
+-- The invariant of `holds`, and what falls with each turn.
 use Prim.Native.Nat.{◌≤◌, ◌-◌}
 use mathlib.Core.Bool.{false}
 use mathlib.Core.Path.{◌≡◌}

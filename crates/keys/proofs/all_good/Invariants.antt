@@ -1,5 +1,4 @@
--- `keys::all_good` meets its contract. The loop's invariant: the flag is `all_good` of the bytes passed.
--- Assumes nothing.
+-- The invariant of `keys::all_good`, and what falls with each turn.
 use Prim.Native.Nat.{◌≤◌, ◌-◌}
 use mathlib.Core.Path.{◌≡◌}
 use Rattle.keys.specs.Good.{all_good}

@@ -1,5 +1,4 @@
--- `keys::key_at` meets its contract. The loop's invariant: the array is the first i bytes of the record, then zeros.
--- Assumes nothing.
+-- The invariant of `keys::key_at`, and what falls with each turn.
 use Prim.Native.Nat.{ℕ, ◌-◌, ◌≤◌}
 use mathlib.Core.Path.{◌≡◌}
 use lib.ListN.{replicate}

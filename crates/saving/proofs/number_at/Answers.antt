@@ -8,22 +8,18 @@ use borrow.Author.Rules.{rules}
 use native.Mathlib.Omega.{arith}
 use Rattle.saving.proofs.number_at.Goals as goal
 
--- src/lib.rt:126:5
 pub loop-i-init : goal.loop-i-init
 unfolding spell
 loop-i-init c = (search rules, refl)
 
--- src/lib.rt:127:18
 pub overflow_mul-number : goal.overflow_mul-number
 overflow_mul-number c = let a = c.args in let l = c.loop-i in
     omega (arith, rw (← l.invariant.1) at (spell_room a.bytes.now (byte_bits * a.from) l.i (omega arith)))
 
--- src/lib.rt:127:18
 pub overflow_add-number : goal.overflow_add-number
 overflow_add-number c = let a = c.args in let l = c.loop-i in
     omega (arith, rw (← l.invariant.1) at (spell_room a.bytes.now (byte_bits * a.from) l.i (omega arith)))
 
--- src/lib.rt:126:5
 pub loop-i-preserved : goal.loop-i-preserved
 loop-i-preserved c = let a = c.args in let l = c.loop-i in (
   search rules,
@@ -32,7 +28,6 @@ loop-i-preserved c = let a = c.args in let l = c.loop-i in (
       ∙ rw (l.invariant.1, c.byte_at.ensures.0)),
 )
 
--- src/lib.rt:120:1
 pub returns : goal.returns
 returns c = let a = c.args in let l = c.loop-i in let e : l.i ≡ a.many = omega arith in
     rw e at l.invariant.1

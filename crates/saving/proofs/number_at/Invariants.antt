@@ -1,4 +1,4 @@
--- `saving::number_at` meets its promise. Before byte i the number is what the bytes so far spell.
+-- The invariant of `saving::number_at`, and what falls with each turn.
 use Rattle.receiver.specs.Feeding.{byte_bits}
 use Rattle.bits.specs.Bytes.{bit_at}
 use Rattle.bits.specs.Spell.{spell}

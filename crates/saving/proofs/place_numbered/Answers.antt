@@ -2,31 +2,24 @@
 use borrow.Author.Tests.{ne_eqb}
 use Rattle.saving.proofs.place_numbered.Goals as goal
 
--- src/lib.rt:53:1
 pub returns-in-1 : goal.returns-in-1
 returns-in-1 c = rw c.in-1.is
 
--- src/lib.rt:53:1
 pub returns-in-2 : goal.returns-in-2
 returns-in-2 c = rw c.in-2.is
 
--- src/lib.rt:53:1
 pub returns-in-3 : goal.returns-in-3
 returns-in-3 c = rw c.in-3.is
 
--- src/lib.rt:53:1
 pub returns-in-4 : goal.returns-in-4
 returns-in-4 c = rw c.in-4.is
 
--- src/lib.rt:53:1
 pub returns-in-5 : goal.returns-in-5
 returns-in-5 c = rw c.in-5.is
 
--- src/lib.rt:53:1
 pub returns-in-6 : goal.returns-in-6
 returns-in-6 c = rw c.in-6.is
 
--- src/lib.rt:53:1
 pub returns-in_default : goal.returns-in_default
 returns-in_default c = let n = c.args.number in let w = c.in_default.in_default-own.rest in
     rw (

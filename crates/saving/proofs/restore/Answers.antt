@@ -2,7 +2,6 @@
 use Rattle.saving.specs.Saving.{restore_of}
 use Rattle.saving.proofs.restore.Goals as goal
 
--- src/lib.rt:177:5
 pub returns : goal.returns
 unfolding restore_of
 returns c = rw (

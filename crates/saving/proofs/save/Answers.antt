@@ -10,7 +10,6 @@ use borrow.Author.Rules.{rules}
 use native.Mathlib.Omega.{arith}
 use Rattle.saving.proofs.save.Goals as goal
 
--- src/lib.rt:165:13
 pub returns-then-out-lt-STATE_LENGTH : goal.returns-then-out-lt-STATE_LENGTH
 unfolding save_of buffer_of
 returns-then-out-lt-STATE_LENGTH c = let n = length c.args.out.now in (
@@ -19,7 +18,6 @@ returns-then-out-lt-STATE_LENGTH c = let n = length c.args.out.now in (
   rw (lt-ltb n state_length (omega arith)),
 )
 
--- src/lib.rt:169:9
 pub loop-i-init : goal.loop-i-init
 loop-i-init c = (
   search rules,
@@ -28,7 +26,6 @@ loop-i-init c = (
   rw c.state_bytes-bytes.ensures (state-length c.args.receiver),
 )
 
--- src/lib.rt:169:9
 pub loop-i-preserved : goal.loop-i-preserved
 loop-i-preserved c = let l = c.loop-i in let out = c.args.out.now in (
   search rules,
@@ -37,11 +34,9 @@ loop-i-preserved c = let l = c.loop-i in let out = c.args.out.now in (
   l.invariant.3,
 )
 
--- src/lib.rt:157:5
 pub shape_of-out : goal.shape_of-out
 shape_of-out c = c.loop-i.invariant.2
 
--- src/lib.rt:157:5
 pub returns : goal.returns
 unfolding save_of buffer_of
 returns c = let l = c.loop-i in let out = c.args.out.now in

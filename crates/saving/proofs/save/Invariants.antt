@@ -1,4 +1,4 @@
--- `saving::save` meets its promise. Before byte i the buffer has the first i bytes of the state, and then its own.
+-- The invariant of `saving::save`, and what falls with each turn.
 use Rattle.saving.specs.Saving.{state_length}
 use Prim.Native.Nat.{◌-◌, ◌≤◌}
 use lib.ListN.{length, take, drop}

@@ -9,7 +9,6 @@ use borrow.Author.Tests.{lt-ltb, le-ltb}
 use native.Mathlib.Omega.{arith}
 use Rattle.saving.proofs.saved_block.Goals as goal
 
--- src/lib.rt:139:22
 pub overflow_cast-result : goal.overflow_cast-result
 overflow_cast-result c = let a = c.args in
     omega (
@@ -18,7 +17,6 @@ overflow_cast-result c = let a = c.args in
           (spell_lt (bit_at a.bytes.now) (bit_at_lt a.bytes.now) (byte_bits * (words_at + 2 * a.i)) 16),
     )
 
--- src/lib.rt:134:1
 pub returns-then-byte_at-gt0 : goal.returns-then-byte_at-gt0
 returns-then-byte_at-gt0 c = rw (
   ← c.byte_at.ensures.0,
@@ -26,6 +24,5 @@ returns-then-byte_at-gt0 c = rw (
   c.number_at.ensures,
 )
 
--- src/lib.rt:134:1
 pub returns-else-byte_at-gt0 : goal.returns-else-byte_at-gt0
 returns-else-byte_at-gt0 c = rw (← c.byte_at.ensures.0, le-ltb 0 c.byte_at.result c.if-byte_at-gt0.false)

@@ -1,7 +1,6 @@
 -- `saving::saved_hand` meets its promise: the calls, from the last to the first.
 use Rattle.saving.proofs.saved_hand.Goals as goal
 
--- src/lib.rt:146:1
 pub returns : goal.returns
 returns c = rw (
   c.with_block.ensures,

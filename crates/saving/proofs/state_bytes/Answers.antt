@@ -2,7 +2,6 @@
 use Rattle.saving.proofs.Saves.{state_bytes_are}
 use Rattle.saving.proofs.state_bytes.Goals as goal
 
--- src/lib.rt:75:1
 pub returns : goal.returns
 returns c =
     state_bytes_are

@@ -1,5 +1,4 @@
--- `asking::exercise::named` meets its promise: before each turn the rest of the text spells the exercise, behind what
--- was read.
+-- The invariant of `asking::exercise::named`, and what falls with each turn.
 use Prim.Native.Nat.{◌-◌, ◌≤◌}
 use mathlib.Core.Path.{◌≡◌}
 use lib.ListN.{length, drop}

@@ -1,4 +1,4 @@
--- `list_of` is the list that `list_in` says: before turn i it is the list after i words.
+-- The invariant of `list_of`, and what falls with each turn.
 use Rattle.capi.specs.Frequencies.{list_after}
 use lib.ListN.{length}
 use Prim.Native.Nat.{◌≤◌, ◌-◌, ◌/◌}

@@ -1,4 +1,4 @@
--- `put_told` copies what is told: before byte i the buffer has the first i bytes of it, and then its own.
+-- The invariant of `put_told`, and what falls with each turn.
 use Rattle.capi_states.specs.Hearing.{told_size}
 use lib.ListN.{length, take, drop}
 use Prim.Native.Nat.{◌≤◌, ◌-◌}

@@ -1,4 +1,4 @@
--- `put_record` fills the buffer from the front: before byte i it has the first i bytes, and then its own.
+-- The invariant of `put_record`, and what falls with each turn.
 use Rattle.capi_states.specs.Stations.{record_size, bytes_to}
 use lib.ListN.{length, drop}
 use Prim.Native.Nat.{◌≤◌, ◌-◌}

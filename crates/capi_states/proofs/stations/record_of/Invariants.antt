@@ -1,4 +1,4 @@
--- `record_of` is the record that `record_in` says: before turn i it is the record after i groups.
+-- The invariant of `record_of`, and what falls with each turn.
 use Rattle.capi_states.specs.Stations.{record_after}
 use lib.ListN.{length}
 use Prim.Native.Nat.{◌≤◌, ◌-◌, ◌/◌}

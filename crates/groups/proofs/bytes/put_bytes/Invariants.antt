@@ -1,4 +1,4 @@
--- `groups::bytes::put_bytes` meets its promise: before turn i the first i bytes are pasted in.
+-- The invariant of `groups::bytes::put_bytes`, and what falls with each turn.
 use Prim.Native.Nat.{◌≤◌, ◌-◌}
 use mathlib.Core.Path.{◌≡◌}
 use lib.Seq.{paste}

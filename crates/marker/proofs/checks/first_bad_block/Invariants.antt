@@ -1,5 +1,4 @@
--- `marker::checks::first_bad_block` meets its promise. The loop's invariant: the first bad block of all is the first
--- from here on.
+-- The invariant of `marker::checks::first_bad_block`, and what falls with each turn.
 use Prim.Native.Nat.{◌-◌, ◌≤◌}
 use mathlib.Core.Path.{◌≡◌}
 use Rattle.marker.specs.First.{first}

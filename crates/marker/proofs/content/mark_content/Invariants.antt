@@ -1,5 +1,4 @@
--- `marker::content::mark_content` meets its promise. The loop's invariant: the first bad group of all is the first
--- from here on, the flag held is the first 2A's, and the mask has the addresses that came so far.
+-- The invariant of `marker::content::mark_content`, and what falls with each turn.
 use Prim.Native.Nat.{ℕ, ◌-◌, ◌<◌, ◌≤◌}
 use mathlib.Core.Path.{◌≡◌}
 use Rattle.marker.specs.First.{first}

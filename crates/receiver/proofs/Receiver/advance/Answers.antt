@@ -5,18 +5,15 @@ use borrow.Author.Rules.{rules}
 use native.Mathlib.Omega.{arith}
 use Rattle.receiver.proofs.Receiver.advance.Goals as goal
 
--- src/feeding.rt:206:13
 pub returns-then-bit-ge-BYTE_BITS : goal.returns-then-bit-ge-BYTE_BITS
 returns-then-bit-ge-BYTE_BITS c = let a = c.args in
     rw c.resting.ensures
     (advance_settled _ a.self a.bytes.now a.byte a.bit
     (advance_no-bit a.self a.bytes.now a.byte a.bit (omega arith)))
 
--- src/feeding.rt:211:9
 pub loop-at-init : goal.loop-at-init
 loop-at-init c = (refl, search rules)
 
--- src/feeding.rt:211:9
 pub loop-at-smaller : goal.loop-at-smaller
 loop-at-smaller c = omega (
   arith,
@@ -24,7 +21,6 @@ loop-at-smaller c = omega (
   c.some_fed-taken.ensures.within,
 )
 
--- src/feeding.rt:211:9
 pub loop-at-preserved : goal.loop-at-preserved
 loop-at-preserved c = (
   c.loop-at.invariant.0 ∙ c.some_fed-taken.ensures.whole
@@ -33,14 +29,12 @@ loop-at-preserved c = (
   c.some_fed-taken.ensures.within,
 )
 
--- src/feeding.rt:219:17
 pub returns-else-is_nothing : goal.returns-else-is_nothing
 returns-else-is_nothing c = let a = c.args in
     advance_settled _ a.self a.bytes.now a.byte a.bit
     (c.loop-at.invariant.0 ∙ c.some_fed-taken.ensures.whole
     ∙ then_stop c.some_fed-taken.result _ (sym c.is_nothing.ensures ∙ c.if-is_nothing.false))
 
--- src/feeding.rt:202:5
 pub returns : goal.returns
 returns c = let a = c.args in let l = c.loop-at in
     rw c.resting-2.ensures

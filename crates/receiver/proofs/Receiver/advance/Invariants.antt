@@ -1,4 +1,4 @@
--- `receiver::Receiver::advance` meets its promise. Feeding on from where the loop is gives the whole answer.
+-- The invariant of `receiver::Receiver::advance`, and what falls with each turn.
 use Prim.Native.Nat.{◌+◌, ◌*◌, ◌-◌, ◌<◌}
 use mathlib.Core.Path.{◌≡◌}
 use lib.ListN.{length}

@@ -6,11 +6,9 @@ use borrow.Author.Rules.{rules}
 use native.Mathlib.Omega.{arith}
 use Rattle.receiver.proofs.feeding.fill.Goals as goal
 
--- src/feeding.rt:134:5
 pub loop-many-init : goal.loop-many-init
 loop-many-init c = ((λ r h. refl), search rules, search rules)
 
--- src/feeding.rt:134:5
 pub loop-many-preserved : goal.loop-many-preserved
 loop-many-preserved c = let l = c.loop-many in
     let s = c.args.bytes.now in
@@ -24,10 +22,8 @@ loop-many-preserved c = let l = c.loop-many in
       omega (arith, c.onward-spot.ensures.0),
     )
 
--- src/feeding.rt:126:1
 pub returns-after-loop-many : goal.returns-after-loop-many
 returns-after-loop-many c = let l = c.loop-many in record { whole = l.invariant.0; moved = l.invariant.2; within = l.invariant.1 }
 
--- src/feeding.rt:126:1
 pub returns-then-at-bytes : goal.returns-then-at-bytes
 returns-then-at-bytes c = let l = c.loop-many in record { whole = l.invariant.0; moved = l.invariant.2; within = l.invariant.1 }

@@ -1,4 +1,4 @@
--- `receiver::feeding::fill` meets its promise. Feeding on from where the loop is gives the whole answer.
+-- The invariant of `receiver::feeding::fill`, and what falls with each turn.
 use Rattle.receiver.specs.Feeding.{byte_bits, advance_of}
 use Rattle.receiver.specs.Machine.{is_hunting_of, inside_of}
 use Rattle.receiver.specs.declared.Receiver.{Receiver}

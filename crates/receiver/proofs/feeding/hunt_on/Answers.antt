@@ -10,22 +10,18 @@ use borrow.Author.Rules.{rules}
 use native.Mathlib.Omega.{arith}
 use Rattle.receiver.proofs.feeding.hunt_on.Goals as goal
 
--- src/feeding.rt:101:5
 pub loop-at-init : goal.loop-at-init
 loop-at-init c = (refl, search rules, search rules)
 
--- src/feeding.rt:103:20
 pub lock_after-requires : goal.lock_after-requires
 lock_after-requires c = let l = c.loop-at in
     rw (c.shifted-moved.ensures, c.bit_of.ensures)
     (shift-limit l.last _ (bit_at_lt c.args.bytes.now
     (byte_bits * l.at + l.inside)))
 
--- src/feeding.rt:101:5
 pub loop-at-smaller : goal.loop-at-smaller
 loop-at-smaller c = omega (arith, c.onward-spot.ensures.0)
 
--- src/feeding.rt:101:5
 pub loop-at-preserved : goal.loop-at-preserved
 loop-at-preserved c = let l = c.loop-at in
     let s = c.args.bytes.now in
@@ -42,11 +38,9 @@ loop-at-preserved c = let l = c.loop-at in
       omega (arith, c.onward-spot.ensures.0),
     )
 
--- src/feeding.rt:93:1
 pub returns-after-loop-at : goal.returns-after-loop-at
 returns-after-loop-at c = let l = c.loop-at in record { whole = l.invariant.0; moved = l.invariant.2; within = l.invariant.1 }
 
--- src/feeding.rt:93:1
 pub returns-then-is_lock : goal.returns-then-is_lock
 returns-then-is_lock c = let l = c.loop-at in
     record { whole = l.invariant.0; moved = l.invariant.2; within = l.invariant.1 }

@@ -1,4 +1,4 @@
--- `receiver::feeding::hunt_on` meets its promise. Feeding on from where the loop is gives the whole answer.
+-- The invariant of `receiver::feeding::hunt_on`, and what falls with each turn.
 use Rattle.receiver.specs.Feeding.{byte_bits, advance_of}
 use Rattle.receiver.specs.Machine.{hunting_of}
 use lib.ListN.{length}

@@ -1,6 +1,5 @@
 -- `receiver::feeding::resting` meets its promise: the two calls.
 use Rattle.receiver.proofs.feeding.resting.Goals as goal
 
--- src/feeding.rt:76:1
 pub returns : goal.returns
 returns c = rw (c.stopped.ensures, c.answering.ensures)

@@ -4,7 +4,6 @@ use mathlib.Core.Path.{sym, ◌∙◌}
 use native.Mathlib.Omega.{arith}
 use Rattle.receiver.proofs.feeding.run_on.Goals as goal
 
--- src/feeding.rt:177:1
 pub returns-then-is_hunting : goal.returns-then-is_hunting
 returns-then-is_hunting c = let a = c.args in
     let h = sym c.is_hunting.ensures ∙ c.if-is_hunting.true in
@@ -16,7 +15,6 @@ returns-then-is_hunting c = let a = c.args in
       within = c.hunt_on.ensures.within;
     }
 
--- src/feeding.rt:177:1
 pub returns-else-is_hunting : goal.returns-else-is_hunting
 returns-else-is_hunting c = let a = c.args in
     let h = sym c.is_hunting.ensures ∙ c.if-is_hunting.false in

@@ -3,7 +3,6 @@ use mathlib.Core.Path.{◌∙◌}
 use native.Mathlib.Omega.{arith}
 use Rattle.receiver.proofs.feeding.some_fed.Goals as goal
 
--- src/feeding.rt:185:1
 pub returns-then-at-bytes : goal.returns-then-at-bytes
 returns-then-at-bytes c = let t = c.fed.ensures in let k = c.run_on-filled.ensures in
     record {
@@ -12,7 +11,6 @@ returns-then-at-bytes c = let t = c.fed.ensures in let k = c.run_on-filled.ensur
       within = t.within;
     }
 
--- src/feeding.rt:185:1
 pub returns-else-at-bytes : goal.returns-else-at-bytes
 returns-else-at-bytes c = let k = c.run_on-filled.ensures in
     record {

@@ -2,12 +2,10 @@
 use Rattle.receiver.specs.Strides.{taken_in_of}
 use Rattle.receiver.proofs.feeding.taken_in.Goals as goal
 
--- src/feeding.rt:168:9
 pub returns-then-is_hunting : goal.returns-then-is_hunting
 unfolding taken_in_of
 returns-then-is_hunting c = rw (← c.is_hunting.ensures, c.if-is_hunting.true, c.hunting.ensures)
 
--- src/feeding.rt:163:1
 pub returns : goal.returns
 unfolding taken_in_of
 returns c = rw (← c.is_hunting.ensures, c.if-is_hunting.false)

@@ -1,4 +1,4 @@
--- `telling::held::put_characters` meets its promise: before turn i the first i characters are written.
+-- The invariant of `telling::held::put_characters`, and what falls with each turn.
 use Prim.Native.Nat.{◌+◌, ◌*◌, ◌-◌, ◌≤◌}
 use mathlib.Core.Path.{◌≡◌}
 use lib.ListN.{length}

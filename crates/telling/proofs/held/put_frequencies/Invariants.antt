@@ -1,4 +1,4 @@
--- `telling::held::put_frequencies` meets its promise: before turn i the first i frequencies are written.
+-- The invariant of `telling::held::put_frequencies`, and what falls with each turn.
 use Prim.Native.Nat.{◌+◌, ◌*◌, ◌-◌, ◌≤◌}
 use mathlib.Core.Path.{◌≡◌}
 use lib.ListN.{length}

@@ -1,4 +1,4 @@
--- `telling::pieces::put_line` meets its promise: before turn i the texts of the first i pieces are written.
+-- The invariant of `telling::pieces::put_line`, and what falls with each turn.
 use Prim.Native.Nat.{◌+◌, ◌*◌, ◌-◌, ◌≤◌}
 use mathlib.Core.Path.{◌≡◌}
 use lib.ListN.{length}
