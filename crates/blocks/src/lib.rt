@@ -104,7 +104,8 @@ pub fn write(word: u16, kind: Kind) -> u32
 
 // The word and kind of a block, or none; 12 where there are more than 26 bits.
 pub fn read(bits: u32) -> Found
-    ensures { (result ≡ read_of bits) × (found_number result ≡ length_number bits) × (found_values result ≡ read_values bits) }
+    ensures { (result ≡ read_of bits) × (found_number result ≡ length_number bits)
+        × (found_values result ≡ read_values bits) }
 {
     if bits >= LIMIT {
         return Found::TooLong;
@@ -123,7 +124,8 @@ pub fn read(bits: u32) -> Found
 
 // A block where a kind is expected: good with its word, or bad; 12 where there are more than 26 bits.
 pub fn judge(bits: u32, kind: Kind) -> Judged
-    ensures { (result ≡ judge_of bits kind) × (judged_number result ≡ length_number bits) × (judged_values result ≡ judge_values bits kind) }
+    ensures { (result ≡ judge_of bits kind) × (judged_number result ≡ length_number bits)
+        × (judged_values result ≡ judge_values bits kind) }
 {
     if bits >= LIMIT {
         return Judged::Refused;

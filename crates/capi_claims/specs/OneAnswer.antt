@@ -1,5 +1,6 @@
 -- No second answer: each public function of `capi` and `capi_states` asks nothing of its arguments, two answers that
--- meet its promise are equal, and so is the whole of each buffer that was lent, at the two exits.
+-- meet its promise are equal, and so is the whole of each buffer that was lent, at the two exits. Of a module NAME,
+-- `NAME_said` has the signatures of its functions, and `NAME` what is asked and learnt of them.
 use Rattle.demands.specs.OneAnswer.{OneAnswer, OneExit}
 use Rattle.capi.specs.contracts.block as block_said
 use Rattle.capi.proofs.block as block

@@ -1,7 +1,8 @@
 -- No second answer: each public function asks nothing of its arguments, two answers that meet its promise are equal,
 -- and where something is lent, so is the whole of it at the two exits. What is asked and promised is the function's own
 -- contract, as a caller meets and learns it (`Asked` and `Learnt`, which are made from the `requires` and `ensures` in
--- src/); nothing of it is written again here.
+-- src/); nothing of it is written again here. Of a crate or module NAME, `NAME_said` has the signatures of its functions,
+-- and `NAME` what is asked and learnt of them.
 use Rattle.std.specs.Prelude.{ℕ, ◌^◌, ◌<◌, ◌≡◌}
 use contract.Lifetimes.{Lfts}
 use denote.Triple.Entry.{Args, Res}

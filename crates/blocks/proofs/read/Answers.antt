@@ -40,6 +40,5 @@ pub returns-in_default : goal.returns-in_default
 returns-in_default c =
     read_settled c.args.bits _
     (read_none_left c.args.bits _ (omega arith) c.left-offset.ensures
-    (each-kind (λ k. c.left-offset.result ≡ offset_of k → ⊥) c.in_default.in_default-own.rest.0.0.0.0.1
-    c.in_default.in_default-own.rest.0.0.0.1
-    c.in_default.in_default-own.rest.0.0.1 c.in_default.in_default-own.rest.0.1 c.in_default.in_default-own.rest.1))
+    (each-kind (λ k. c.left-offset.result ≡ offset_of k → ⊥)
+    (λ e. omega arith) (λ e. omega arith) (λ e. omega arith) (λ e. omega arith) (λ e. omega arith)))

@@ -9,4 +9,4 @@ returns-in-2 c = rw c.in-2.is c.third_kind.ensures
 
 pub returns-in_default : goal.returns-in_default
 returns-in_default c = sym (expected_fourth c.args.place c.args.word2
-    (omega (arith, c.in_default.in_default-own.rest.0.0.1, c.in_default.in_default-own.rest.0.1, c.in_default.in_default-own.rest.1)))
+    (omega arith))

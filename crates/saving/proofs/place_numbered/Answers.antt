@@ -1,4 +1,5 @@
 -- `saving::place_numbered` meets its promise: number by number.
+use native.Mathlib.Omega.{arith}
 use borrow.Author.Tests.{ne_eqb}
 use Rattle.saving.proofs.place_numbered.Goals as goal
 
@@ -21,12 +22,12 @@ pub returns-in-6 : goal.returns-in-6
 returns-in-6 c = rw c.in-6.is
 
 pub returns-in_default : goal.returns-in_default
-returns-in_default c = let n = c.args.number in let w = c.in_default.in_default-own.rest in
+returns-in_default c = let n = c.args.number in
     rw (
-      ne_eqb n 1 w.0.0.0.0.0.1,
-      ne_eqb n 2 w.0.0.0.0.1,
-      ne_eqb n 3 w.0.0.0.1,
-      ne_eqb n 4 w.0.0.1,
-      ne_eqb n 5 w.0.1,
-      ne_eqb n 6 w.1,
+      ne_eqb n 1 (λ e. omega arith),
+      ne_eqb n 2 (λ e. omega arith),
+      ne_eqb n 3 (λ e. omega arith),
+      ne_eqb n 4 (λ e. omega arith),
+      ne_eqb n 5 (λ e. omega arith),
+      ne_eqb n 6 (λ e. omega arith),
     )

@@ -1,4 +1,5 @@
 -- `list_code` gives the number that `list_code` says.
+use native.Mathlib.Omega.{arith}
 use borrow.Author.Tests.{ne_eqb}
 use mathlib.Core.Path.{◌∙◌}
 use Rattle.capi.proofs.af.list_code.Goals as goal
@@ -12,5 +13,4 @@ returns-in-1 c = c.held.ensures ∙ rw c.in-1.is
 pub returns-in_default : goal.returns-in_default
 returns-in_default c =
     let n = c.args.asked in
-    let w = c.in_default.in_default-own.rest in
-    c.at.ensures ∙ rw (ne_eqb n 0 w.0.1, ne_eqb n 1 w.1)
+    c.at.ensures ∙ rw (ne_eqb n 0 (λ e. omega arith), ne_eqb n 1 (λ e. omega arith))

@@ -1,4 +1,5 @@
 -- `kind_numbered` gives the kind that `kind_numbered` says, number by number.
+use native.Mathlib.Omega.{arith}
 use borrow.Author.Tests.{ne_eqb}
 use Rattle.capi.proofs.block.kind_numbered.Goals as goal
 
@@ -17,5 +18,4 @@ returns-in-4 c = rw c.in-4.is
 pub returns-in_default : goal.returns-in_default
 returns-in_default c =
     let n = c.args.number in
-    let w = c.in_default.in_default-own.rest in
-    rw (ne_eqb n 1 w.0.0.0.1, ne_eqb n 2 w.0.0.1, ne_eqb n 3 w.0.1, ne_eqb n 4 w.1)
+    rw (ne_eqb n 1 (λ e. omega arith), ne_eqb n 2 (λ e. omega arith), ne_eqb n 3 (λ e. omega arith), ne_eqb n 4 (λ e. omega arith))

@@ -1,4 +1,5 @@
 -- `head` gives the number that `head_of` says, number by number.
+use native.Mathlib.Omega.{arith}
 use borrow.Author.Tests.{ne_eqb}
 use mathlib.Core.Path.{◌∙◌}
 use Rattle.capi_states.proofs.stations.head.Goals as goal
@@ -21,12 +22,11 @@ returns-in-4 c = c.held_code.ensures ∙ rw (c.in-4.is, c.held_clock.ensures.0)
 pub returns-in_default : goal.returns-in_default
 returns-in_default c =
     let n = c.args.n in
-    let w = c.in_default.in_default-own.rest in
     c.local_code.ensures ∙ rw (
-      ne_eqb n 0 w.0.0.0.0.1,
-      ne_eqb n 1 w.0.0.0.1,
-      ne_eqb n 2 w.0.0.1,
-      ne_eqb n 3 w.0.1,
-      ne_eqb n 4 w.1,
+      ne_eqb n 0 (λ e. omega arith),
+      ne_eqb n 1 (λ e. omega arith),
+      ne_eqb n 2 (λ e. omega arith),
+      ne_eqb n 3 (λ e. omega arith),
+      ne_eqb n 4 (λ e. omega arith),
       c.local_date.ensures.0,
     )

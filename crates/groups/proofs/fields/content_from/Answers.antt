@@ -1,4 +1,5 @@
 -- `groups::fields::content_from` meets its promise: each arm is one type with its version.
+use native.Mathlib.Omega.{arith}
 use mathlib.Core.Path.{sym}
 use Rattle.groups.proofs.Contents.{content_0A, content_0B, content_2A, content_2B, content_4A, content_other}
 use Rattle.groups.proofs.fields.content_from.Goals as goal
@@ -35,5 +36,4 @@ pub returns-in_default : goal.returns-in_default
 returns-in_default c =
     sym
     (content_other c.args.word2 c.args.word3 c.args.word4
-    c.in_default.in_default-own.rest.0.0.0.0.1 c.in_default.in_default-own.rest.0.0.0.1 c.in_default.in_default-own.rest.0.0.1 c.in_default.in_default-own.rest.0.1
-    c.in_default.in_default-own.rest.1)
+    (λ e. omega arith) (λ e. omega arith) (λ e. omega arith) (λ e. omega arith) (λ e. omega arith))

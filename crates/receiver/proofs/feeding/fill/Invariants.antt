@@ -11,7 +11,8 @@ use Rattle.receiver.proofs.feeding.fill.Given as goal
 abbrev pub invariant-loop-many : goal.invariant-loop-many
 invariant-loop-many l =
     ((r : Receiver) → is_hunting_of r.place ≡ false
-    → advance_of (inside_of r l.window l.count) l.bytes l.byte l.bit ≡ advance_of (inside_of r l.last l.many) l.bytes l.at l.inside)
+    → advance_of (inside_of r l.window l.count) l.bytes l.byte l.bit
+    ≡ advance_of (inside_of r l.last l.many) l.bytes l.at l.inside)
     × (l.inside < byte_bits) × (byte_bits * l.byte + l.bit ≤ byte_bits * l.at + l.inside)
 
 abbrev pub decreases-loop-many : goal.decreases-loop-many

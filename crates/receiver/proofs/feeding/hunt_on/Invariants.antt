@@ -8,7 +8,8 @@ use Rattle.receiver.proofs.feeding.hunt_on.Given as goal
 
 abbrev pub invariant-loop-at : goal.invariant-loop-at
 invariant-loop-at l =
-    (advance_of (hunting_of l.window l.count) l.bytes l.byte l.bit ≡ advance_of (hunting_of l.last l.many) l.bytes l.at l.inside)
+    (advance_of (hunting_of l.window l.count) l.bytes l.byte l.bit
+    ≡ advance_of (hunting_of l.last l.many) l.bytes l.at l.inside)
     × (l.inside < byte_bits) × (byte_bits * l.byte + l.bit ≤ byte_bits * l.at + l.inside)
 
 abbrev pub decreases-loop-at : goal.decreases-loop-at

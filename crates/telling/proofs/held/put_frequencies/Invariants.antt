@@ -8,7 +8,8 @@ use Rattle.telling.proofs.held.put_frequencies.Given as goal
 
 abbrev pub invariant-loop-i : goal.invariant-loop-i
 invariant-loop-i l =
-    (l.i ≤ l.count) × (l.next ≤ l.at + 21 * l.i) × (length l.out ≡ length l.initial.out) × Wrote l.initial.out l.at (frequencies_to l.list l.i) l.out l.next
+    (l.i ≤ l.count) × (l.next ≤ l.at + 21 * l.i) × (length l.out ≡ length l.initial.out)
+    × Wrote l.initial.out l.at (frequencies_to l.list l.i) l.out l.next
 
 abbrev pub decreases-loop-i : goal.decreases-loop-i
 decreases-loop-i l = l.count - l.i
