@@ -11,7 +11,7 @@ use Rattle.letters.specs.Letters.{decimal_of}
 use Rattle.letters.proofs.Digits.{digits_small, digits_large, count_small, count_large}
 use Rattle.asking.specs.Exercise.{digit_zero, is_digit, all_digits, value_of, last_exercise, named_from, named_of}
 use Rattle.asking.proofs.Digits.{first_named}
-use Rattle.asking.specs.declared.exercise.ExerciseNamed.TheVariants.{Exercise, NoExercise}
+use Rattle.std.specs.Prelude.{Some, None}
 
 -- ---- one digit more
 
@@ -104,14 +104,14 @@ decimal-some n none = by_size (ltb n 10) refl
     by_size false e = let more = count_large 10 48 (omega arith) n (ltb-false n 10 e) in omega arith
 
 -- the exercise that a number's digits name is that number
-pub decimal-named : (n : ℕ) → n ≤ last_exercise → named_of (decimal_of n) ≡ Exercise n
+pub decimal-named : (n : ℕ) → n ≤ last_exercise → named_of (decimal_of n) ≡ Some n
 unfolding named_from
 decimal-named n h =
     first_named (decimal_of n) (decimal-some n)
     ∙ rw (decimal_digits n, decimal_value n, le-leb n last_exercise h)
 
 -- a larger number names none
-pub over-named : (n : ℕ) → last_exercise < n → named_of (decimal_of n) ≡ NoExercise
+pub over-named : (n : ℕ) → last_exercise < n → named_of (decimal_of n) ≡ None
 unfolding named_from
 over-named n h =
     first_named (decimal_of n) (decimal-some n)

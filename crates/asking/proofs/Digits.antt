@@ -9,8 +9,7 @@ use lib.ListN.{length, get_or, drop, drop_of_length-le}
 use lib.Seq.{drop-cons}
 use borrow.Author.Tests.{le-leb, lt-leb}
 use Rattle.asking.specs.Exercise.{digit_zero, is_digit, all_digits, value_of, last_exercise, named_from, named_of}
-use Rattle.asking.specs.declared.exercise.ExerciseNamed.{ExerciseNamed}
-use Rattle.asking.specs.declared.exercise.ExerciseNamed.TheVariants.{Exercise, NoExercise}
+use Rattle.std.specs.Prelude.{Option, Some, None}
 
 -- more digits make no number less
 value_least : (cs : List ℕ) (high : ℕ) → high ≤ value_of cs high
@@ -20,18 +19,18 @@ value_least (c ∷ cs) high = let more = value_least cs (10 * high + (c - digit_
 
 -- by the next character
 module _ (c : ℕ) (cs : List ℕ) (high : ℕ) where
-  named_other : is_digit c ≡ false → named_from (c ∷ cs) high ≡ NoExercise
+  named_other : is_digit c ≡ false → named_from (c ∷ cs) high ≡ None
   unfolding named_from all_digits
   named_other e = rw e
 
-  named-over : last_exercise < 10 * high + (c - digit_zero) → named_from (c ∷ cs) high ≡ NoExercise
+  named-over : last_exercise < 10 * high + (c - digit_zero) → named_from (c ∷ cs) high ≡ None
   unfolding named_from all_digits value_of
   named-over h =
       let over = lt-leb (value_of cs (10 * high + (c - digit_zero))) last_exercise
       (omega (arith, value_least cs (10 * high + (c - digit_zero)))) in
-      rw over (neither (is_digit c && all_digits cs) (Exercise (value_of cs (10 * high + (c - digit_zero)))))
+      rw over (neither (is_digit c && all_digits cs) (Some (value_of cs (10 * high + (c - digit_zero)))))
     where
-      neither : (some : Bool) (named : ExerciseNamed) → cond (some && false) named NoExercise ≡ NoExercise
+      neither : (some : Bool) (named : Option ℕ) → cond (some && false) named None ≡ None
       neither true named = refl
       neither false named = refl
 
@@ -39,7 +38,7 @@ module _ (c : ℕ) (cs : List ℕ) (high : ℕ) where
   unfolding named_from all_digits value_of
   named-next e = rw e
 
-named_end : (high : ℕ) → high ≤ last_exercise → named_from [] high ≡ Exercise high
+named_end : (high : ℕ) → high ≤ last_exercise → named_from [] high ≡ Some high
 unfolding named_from all_digits value_of
 named_end high h = rw (le-leb high last_exercise h)
 
@@ -54,24 +53,24 @@ module _ (text : List ℕ) where
       by-text [] some = absurd (some refl)
       by-text (c ∷ cs) some = refl
 
-  pub none_named : length text ≡ 0 → named_of text ≡ NoExercise
+  pub none_named : length text ≡ 0 → named_of text ≡ None
   unfolding named_of
   none_named h = by-text text h
     where
-      by-text : (l : List ℕ) → length l ≡ 0 → named_of l ≡ NoExercise
+      by-text : (l : List ℕ) → length l ≡ 0 → named_of l ≡ None
       by-text [] e = refl
       by-text (c ∷ cs) e = absurd (omega arith)
 
   module _ (i high : ℕ) (h : i < length text) where
-    pub other_named : is_digit (get_or text i 0) ≡ false → named_from (drop i text) high ≡ NoExercise
+    pub other_named : is_digit (get_or text i 0) ≡ false → named_from (drop i text) high ≡ None
     other_named e = rw (drop-cons text i 0 h) (named_other (get_or text i 0) (drop (suc i) text) high e)
 
-    pub over-named : last_exercise < 10 * high + (get_or text i 0 - digit_zero) → named_from (drop i text) high ≡ NoExercise
+    pub over-named : last_exercise < 10 * high + (get_or text i 0 - digit_zero) → named_from (drop i text) high ≡ None
     over-named e = rw (drop-cons text i 0 h) (named-over (get_or text i 0) (drop (suc i) text) high e)
 
     pub next_named : is_digit (get_or text i 0) ≡ true
         → named_from (drop i text) high ≡ named_from (drop (i + 1) text) (10 * high + (get_or text i 0 - digit_zero))
     next_named e = rw (add-one i, drop-cons text i 0 h) (named-next (get_or text i 0) (drop (suc i) text) high e)
 
-  pub last_named : (i high : ℕ) → length text ≤ i → high ≤ last_exercise → named_from (drop i text) high ≡ Exercise high
+  pub last_named : (i high : ℕ) → length text ≤ i → high ≤ last_exercise → named_from (drop i text) high ≡ Some high
   last_named i high h e = rw (drop_of_length-le text h) (named_end high e)

@@ -1,5 +1,4 @@
 -- The laws of the floor `asking`.
 pub mod Digits
 pub mod Calls
-pub mod Texts
 pub mod Decimals

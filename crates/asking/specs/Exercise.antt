@@ -1,7 +1,5 @@
 -- An exercise as a person names it: a decimal number from 0 to 255, in which leading zeros are just zeros.
-use Rattle.std.specs.Prelude.{ℕ, ◌+◌, ◌*◌, ◌-◌, List, [], ◌∷◌, Bool, true, cond, ◌&&◌, leb}
-use Rattle.asking.specs.declared.exercise.ExerciseNamed.{ExerciseNamed}
-use Rattle.asking.specs.declared.exercise.ExerciseNamed.TheVariants.{Exercise, NoExercise}
+use Rattle.std.specs.Prelude.{ℕ, ◌+◌, ◌*◌, ◌-◌, List, [], ◌∷◌, Bool, true, cond, ◌&&◌, leb, Option, Some, None}
 
 -- the digits are 0 to 9, from code 48 on
 abbrev pub digit_zero : ℕ
@@ -25,10 +23,10 @@ abbrev pub last_exercise : ℕ
 last_exercise = 255
 
 -- digits behind those that are worth `high`: an exercise if they spell one
-unfoldable pub named_from : List ℕ → ℕ → ExerciseNamed
-named_from cs high = cond (all_digits cs && leb (value_of cs high) last_exercise) (Exercise (value_of cs high)) NoExercise
+unfoldable pub named_from : List ℕ → ℕ → Option ℕ
+named_from cs high = cond (all_digits cs && leb (value_of cs high) last_exercise) (Some (value_of cs high)) None
 
 -- one digit or more, which spell a number from 0 to 255; anything else names no exercise
-unfoldable pub named_of : List ℕ → ExerciseNamed
-named_of [] = NoExercise
+unfoldable pub named_of : List ℕ → Option ℕ
+named_of [] = None
 named_of (c ∷ cs) = named_from (c ∷ cs) 0

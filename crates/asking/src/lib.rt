@@ -8,53 +8,50 @@ ghost use Rattle.asking.specs.Words.{is_standard, is_summary, listen_of};
 pub mod exercise;
 pub mod reading;
 
-// What `listen` is asked: all that is in the file that an argument names, 0 for standard input, or the summary alone.
+// What `listen` is asked: which argument names the file, none being standard input, and whether for the summary alone.
 #[derive(Clone, Copy)]
-pub enum ListenAsked {
-    All(usize),
-    Summary(usize),
-    Unknown,
+pub struct ListenAsked {
+    pub argument: Option<usize>,
+    pub summary: bool,
 }
-
-const HYPHEN: u8 = 45;
-
-const LETTER_S: u8 = 115;
 
 // Whether a file's name stands for standard input.
 pub fn is_standard(name: &[u8]) -> bool
     ensures { result ≡ is_standard name.now }
 {
-    if name.len() != 1 {
-        return false;
-    }
-    name[0] == HYPHEN
+    name == b"-".as_slice()
 }
 
 // Whether an argument asks for the summary alone.
 pub fn is_summary(argument: &[u8]) -> bool
     ensures { result ≡ is_summary argument.now }
 {
-    if argument.len() != 2 {
-        return false;
-    }
-    (argument[0] == HYPHEN) & (argument[1] == LETTER_S)
+    argument == b"-s".as_slice()
 }
 
-// What `listen` is asked with so many arguments, its own name among them, and whether the first behind it is `-s`.
-pub fn listen_asked(count: usize, summary: bool) -> ListenAsked
+// What `listen` is asked with so many arguments, its own name among them, and whether the first behind it is `-s`. None
+// where there are too many.
+#[tactic(auto, unfolding(crate::specs::Words::listen_of))]
+pub fn listen_asked(count: usize, summary: bool) -> Option<ListenAsked>
     ensures { result ≡ listen_of count summary }
 {
-    if count <= 1 {
-        return ListenAsked::All(0);
+    match (count, summary) {
+        (0 | 1, _) => Some(ListenAsked {
+            argument: None,
+            summary: false,
+        }),
+        (2, true) => Some(ListenAsked {
+            argument: None,
+            summary: true,
+        }),
+        (2, false) => Some(ListenAsked {
+            argument: Some(1),
+            summary: false,
+        }),
+        (3, true) => Some(ListenAsked {
+            argument: Some(2),
+            summary: true,
+        }),
+        _ => None,
     }
-    if count == 2 {
-        if summary {
-            return ListenAsked::Summary(0);
-        }
-        return ListenAsked::All(1);
-    }
-    if (count == 3) & summary {
-        return ListenAsked::Summary(2);
-    }
-    ListenAsked::Unknown
 }

@@ -3,22 +3,25 @@
 ghost use Rattle.std.specs.Prelude.{◌≡◌};
 ghost use Rattle.asking.specs.Reading.{called_of, after_of, there_of, goes_on_of, failed_of};
 
-// So many bytes are there and there may be more; the input has ended; or a call failed.
+use std::io;
+use std::io::Error;
+
+// So many bytes are there and there may be more; the input has ended; or a call failed, and why.
 #[derive(Clone, Copy)]
 pub enum Reading {
     GoOn(usize),
     Ended(usize),
-    Failed,
+    Failed(Error),
 }
 
 // After a call that read behind the bytes that were there, into a buffer with so much room in all.
-pub fn after(reading: Reading, got: isize, room: usize) -> Reading
+#[tactic(auto, unfolding(crate::specs::Reading::after_of))]
+pub fn after(reading: Reading, got: io::Result<usize>, room: usize) -> Reading
     ensures { result ≡ after_of reading got room }
 {
     match reading {
         Reading::GoOn(there) => called(there, got, room),
-        Reading::Ended(there) => Reading::Ended(there),
-        Reading::Failed => Reading::Failed,
+        stopped => stopped,
     }
 }
 
@@ -27,9 +30,8 @@ pub fn there(reading: Reading) -> usize
     ensures { result ≡ there_of reading }
 {
     match reading {
-        Reading::GoOn(there) => there,
-        Reading::Ended(there) => there,
-        Reading::Failed => 0,
+        Reading::GoOn(there) | Reading::Ended(there) => there,
+        Reading::Failed(_) => 0,
     }
 }
 
@@ -39,8 +41,7 @@ pub fn goes_on(reading: Reading, room: usize) -> bool
 {
     match reading {
         Reading::GoOn(there) => there < room,
-        Reading::Ended(_) => false,
-        Reading::Failed => false,
+        Reading::Ended(_) | Reading::Failed(_) => false,
     }
 }
 
@@ -48,29 +49,17 @@ pub fn goes_on(reading: Reading, room: usize) -> bool
 pub fn failed(reading: Reading) -> bool
     ensures { result ≡ failed_of reading }
 {
-    match reading {
-        Reading::GoOn(_) => false,
-        Reading::Ended(_) => false,
-        Reading::Failed => true,
-    }
+    matches!(reading, Reading::Failed(_))
 }
 
 // After a call, where so many bytes were there.
-fn called(there: usize, got: isize, room: usize) -> Reading
+#[tactic(auto, unfolding(crate::specs::Reading::called_of))]
+fn called(there: usize, got: io::Result<usize>, room: usize) -> Reading
     ensures { result ≡ called_of there got room }
 {
-    if got < 0 {
-        return Reading::Failed;
+    match got {
+        Ok(0) => Reading::Ended(there),
+        Ok(more) => Reading::GoOn(there.saturating_add(more).min(room)),
+        Err(error) => Reading::Failed(error),
     }
-    let more = got as usize;
-    if more == 0 {
-        return Reading::Ended(there);
-    }
-    if room < there {
-        return Reading::GoOn(room);
-    }
-    if room - there < more {
-        return Reading::GoOn(room);
-    }
-    Reading::GoOn(there + more)
 }

@@ -7,8 +7,7 @@ use lib.ListN.{length, drop}
 use lib.Seq.{drop-append_seam}
 use Rattle.letters.specs.Letters.{codes, decimal_of}
 use Rattle.letters.proofs.Digits.{digits_small}
-use Rattle.asking.specs.Words.{is_standard, is_summary}
-use Rattle.asking.proofs.Texts.{same_only, same_self}
+use Rattle.std.proofs.lemmas.Slice.Eq.{bytes_eq-Decides}
 use Rattle.recording.specs.Lines.{group_line, lock_line_of}
 use Rattle.asking.proofs.Decimals.{same_number, decimal-named, over-named, zero-named}
 use Rattle.keys.specs.Sheet.{HasExercise, key_at}
@@ -159,11 +158,11 @@ encode_writes =
 -- ---- what is asked
 
 asked : Asked
-unfolding is_standard is_summary group_line lock_line_of
+unfolding group_line lock_line_of
 asked =
     record {
-      standard = λ name. (same_only name (codes "-"), λ e. rw e (same_self (codes "-")));
-      summary = λ argument. (same_only argument (codes "-s"), λ e. rw e (same_self (codes "-s")));
+      standard = λ name. bytes_eq-Decides name (codes "-");
+      summary = λ argument. bytes_eq-Decides argument (codes "-s");
       no_group = λ ear taken. refl;
       no-lock = λ before taken. refl;
     }

@@ -1,11 +1,10 @@
 -- What people see, and what they ask: the line that `mark` prints and what `encode` writes, for the bytes of a sheet
 -- and of an input, one byte of exercise number and then the submission. The programs' buffers hold these texts whole;
 -- the part with io only moves them.
-use Rattle.std.specs.Prelude.{ℕ, ◌≤◌, ◌<◌, ◌≡◌, ◌↔◌, List, [], ◌∷◌, ◌++◌, true}
+use Rattle.std.specs.Prelude.{ℕ, ◌≤◌, ◌<◌, ◌≡◌, ◌↔◌, List, [], ◌∷◌, ◌++◌, true, Some, None}
 use Rattle.bits.specs.Bytes.{Bytes}
 use Rattle.letters.specs.Letters.{codes, decimal_of}
 use Rattle.asking.specs.Exercise.{digit_zero, last_exercise, named_of}
-use Rattle.asking.specs.declared.exercise.ExerciseNamed.TheVariants as exercise
 use Rattle.asking.specs.Words.{is_standard, is_summary}
 use Rattle.receiver.specs.declared.Advanced.{Advanced}
 use Rattle.recording.specs.declared.Ear.{Ear}
@@ -44,8 +43,8 @@ pub record EncodeWrites : Type 0 where
 
 -- An exercise by its decimal digits: that number up to 255, none above; leading zeros are just zeros.
 pub record Named : Type 0 where
-  pub back : (n : ℕ) → n ≤ last_exercise → named_of (decimal_of n) ≡ exercise.Exercise n
-  pub over : (n : ℕ) → last_exercise < n → named_of (decimal_of n) ≡ exercise.NoExercise
+  pub back : (n : ℕ) → n ≤ last_exercise → named_of (decimal_of n) ≡ Some n
+  pub over : (n : ℕ) → last_exercise < n → named_of (decimal_of n) ≡ None
   pub zeros : (c : ℕ) (cs : List ℕ) → named_of (digit_zero ∷ c ∷ cs) ≡ named_of (c ∷ cs)
 
 -- `-` names standard input and `-s` asks for the summary alone, and nothing else does; with it nothing is told of an

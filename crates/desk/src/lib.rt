@@ -5,7 +5,6 @@
 ghost use Rattle.io.specs.Counts.{IsPrefixLen};
 
 use answers::{ERROR_ROOM, LINE_ROOM, OUTPUT_ROOM};
-use asking::exercise::ExerciseNamed;
 use files::arguments;
 use files::arguments::NAME_ROOM;
 use std::io::Print;
@@ -53,8 +52,8 @@ fn mark_unnamed(rt: &impl Runtime, errors: &impl Print) {
 // An exercise that is none is said, and nothing is marked.
 fn mark_named(rt: &impl Runtime, errors: &impl Print) {
     match named_exercise(rt) {
-        ExerciseNamed::Exercise(exercise) => mark_exercise(rt, errors, exercise),
-        ExerciseNamed::NoExercise => say_no_exercise(errors),
+        Some(exercise) => mark_exercise(rt, errors, exercise),
+        None => say_no_exercise(errors),
     }
 }
 
@@ -79,8 +78,8 @@ fn encode_unnamed(rt: &impl Runtime, errors: &impl Print) {
 // An exercise that is none is said, and nothing is encoded.
 fn encode_named(rt: &impl Runtime, errors: &impl Print) {
     match named_exercise(rt) {
-        ExerciseNamed::Exercise(exercise) => encode_exercise(rt, errors, exercise),
-        ExerciseNamed::NoExercise => say_no_exercise(errors),
+        Some(exercise) => encode_exercise(rt, errors, exercise),
+        None => say_no_exercise(errors),
     }
 }
 
@@ -93,7 +92,7 @@ fn encode_exercise(rt: &impl Runtime, errors: &impl Print, exercise: u8) {
 }
 
 // The exercise that the second argument names.
-fn named_exercise(rt: &impl Runtime) -> ExerciseNamed {
+fn named_exercise(rt: &impl Runtime) -> Option<u8> {
     let mut text = [0u8; NAME_ROOM];
     let length = arguments::get(rt, 2, &mut text);
     asking::exercise::named(&text[..length])

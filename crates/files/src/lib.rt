@@ -3,7 +3,8 @@
 // `rt` is what a program runs on, and `errors` its standard error.
 #![tactic(auto)]
 
-ghost use Rattle.std.specs.Prelude.{◌≡◌, true};
+ghost use Rattle.std.specs.Prelude.{◌≡◌, length, true};
+ghost use Rattle.asking.specs.declared.reading.Reading.TheVariants.{GoOn};
 ghost use Rattle.asking.specs.Reading.{there_of};
 ghost use Rattle.asking.specs.Words.{is_standard};
 ghost use Rattle.io.specs.Counts.{IsPrefixLen};
@@ -16,19 +17,21 @@ pub mod input;
 use asking::reading;
 use asking::reading::Reading;
 use failing::fail;
-use input::{Opened, Source};
+use input::Source;
 use std::io::{Error, ErrorKind, Input, Print, Read};
 use std::rt::Files;
 use std::{fs, io};
 
-// Reads until the buffer is full, the input ends or a call fails, and answers which, with the bytes that are there.
-pub fn fill<S: Read, F: Read>(input: &mut Opened<S, F>, buffer: &mut [u8]) -> Reading
-    ensures { IsPrefixLen (there_of result) buffer.new }
+// Reads until the buffer is full, the input ends or a call fails, and answers which, with the bytes that are there, or
+// why the call failed. Nothing has failed before the first call.
+pub fn fill(input: &mut impl Read, buffer: &mut [u8]) -> Reading
+    ensures within { IsPrefixLen (there_of result) buffer.new }
+    ensures fresh { length buffer.new ≡ 0 → result ≡ GoOn 0 }
 {
     let mut reading = Reading::GoOn(0);
     while reading::goes_on(reading, buffer.len()) {
-        let at = reading::there(reading);
-        let got = input.read(&mut buffer[at..]);
+        let there = reading::there(reading);
+        let got = input.read(&mut buffer[there..]);
         reading = reading::after(reading, got, buffer.len());
     }
     reading
@@ -41,14 +44,14 @@ pub fn open<R: Files + Input>(
     errors: &impl Print,
     name: &[u8],
     may_be_absent: bool,
-) -> Option<Opened<R::Reader, R::File>>
+) -> Option<Source<R::Reader, R::File>>
     ensures { is_standard name.now ≡ true → OpensStandard result }
 {
     if asking::is_standard(name) {
-        return Some(input::fresh(Source::Standard(rt.reader())));
+        return Some(Source::Standard(rt.reader()));
     }
     match open_file(rt, name) {
-        Ok(file) => Some(input::fresh(Source::File(file))),
+        Ok(file) => Some(Source::File(file)),
         Err(error) => {
             if (error.kind() != ErrorKind::NotFound) | !may_be_absent {
                 fail(errors, name, error);
@@ -71,8 +74,8 @@ pub fn read_file(
     match open(rt, errors, name, may_be_absent) {
         Some(mut input) => {
             let reading = fill(&mut input, buffer);
-            if reading::failed(reading) {
-                say_failed(errors, name, &input);
+            if let Reading::Failed(error) = reading {
+                say_failed(errors, name, error);
             }
             reading::there(reading)
         }
@@ -80,14 +83,12 @@ pub fn read_file(
     }
 }
 
-// Says why a file failed, by its name.
-pub fn say_failed<S, F>(errors: &impl Print, name: &[u8], input: &Opened<S, F>) {
-    if let Some(error) = input.failure {
-        if asking::is_standard(name) {
-            fail(errors, b"standard input", error);
-        } else {
-            fail(errors, name, error);
-        }
+// Says why a call on a file failed, by the file's name.
+pub fn say_failed(errors: &impl Print, name: &[u8], error: Error) {
+    if asking::is_standard(name) {
+        fail(errors, b"standard input", error);
+    } else {
+        fail(errors, name, error);
     }
 }
 

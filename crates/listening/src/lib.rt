@@ -5,11 +5,10 @@
 ghost use Rattle.std.specs.Prelude.{◌≡◌};
 ghost use Rattle.recording.specs.Ear.{hear_of};
 
+use asking::reading;
 use asking::reading::Reading;
-use asking::{ListenAsked, reading};
 use files::arguments;
 use files::arguments::NAME_ROOM;
-use files::input::Opened;
 use receiver::Advanced;
 use recording::Ear;
 use std::io::{Print, Read};
@@ -33,23 +32,23 @@ pub fn listen(rt: &impl Runtime, errors: &impl Print) {
     let length = arguments::get(rt, 1, &mut first);
     let summary = asking::is_summary(&first[..length]);
     match asking::listen_asked(arguments::count(rt), summary) {
-        ListenAsked::All(argument) => listen_to(rt, errors, argument, false),
-        ListenAsked::Summary(argument) => listen_to(rt, errors, argument, true),
-        ListenAsked::Unknown => {
+        Some(asked) => listen_to(rt, errors, asked.argument, asked.summary),
+        None => {
             let _ = errors.write_all(b"listen takes [-s] [FILE]\n");
         }
     }
 }
 
 // Hears the file that an argument names, or standard input.
-fn listen_to(rt: &impl Runtime, errors: &impl Print, argument: usize, short: bool) {
-    if argument == 0 {
-        listen_in(rt, errors, b"-", short);
-        return;
+fn listen_to(rt: &impl Runtime, errors: &impl Print, argument: Option<usize>, short: bool) {
+    match argument {
+        Some(number) => {
+            let mut name = [0u8; NAME_ROOM];
+            let length = arguments::get(rt, number, &mut name);
+            listen_in(rt, errors, &name[..length], short);
+        }
+        None => listen_in(rt, errors, b"-", short),
     }
-    let mut name = [0u8; NAME_ROOM];
-    let length = arguments::get(rt, argument, &mut name);
-    listen_in(rt, errors, &name[..length], short);
 }
 
 // Hears the file of a name, where it can be opened.
@@ -61,10 +60,10 @@ fn listen_in(rt: &impl Runtime, errors: &impl Print, name: &[u8], short: bool) {
 
 // Hears a file to its end, and writes the summary. A read that fails is said, and is not taken for the end: then no
 // summary is written.
-fn hear_file<S: Read + Drop, F: Read + Drop>(
+fn hear_file(
     rt: &impl Runtime,
     errors: &impl Print,
-    mut input: Opened<S, F>,
+    mut input: impl Read + Drop,
     name: &[u8],
     short: bool,
 ) {
@@ -84,8 +83,8 @@ fn hear_file<S: Read + Drop, F: Read + Drop>(
                 write_summary(rt, errors, now);
                 return;
             }
-            Reading::Failed => {
-                files::say_failed(errors, name, &input);
+            Reading::Failed(error) => {
+                files::say_failed(errors, name, error);
                 return;
             }
         }

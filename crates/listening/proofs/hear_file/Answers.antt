@@ -10,4 +10,4 @@ slice_bounds-piece-end g c = omega (arith, piece_within _ 65536 _ _ c.after.ensu
 pub slice_bounds-hear-end : goal.slice_bounds-hear-end
 slice_bounds-hear-end g c =
     let within = piece_within _ 65536 _ _ c.after.ensures c.in-GoOn.is in
-    (counts_within c.in-GoOn.length c.read-got.new.buffer (omega arith)).1
+    (counts_within c.in-GoOn.length c.read-got.new.buf (omega arith)).1

@@ -1,38 +1,46 @@
--- `asking::exercise::named` meets its promise: before each turn the rest of the text spells the exercise, behind what
--- was read.
-use mathlib.Core.Path.{sym, ◌∙◌}
-use native.Mathlib.Omega.{arith}
+-- `asking::exercise::named`: before each turn the rest of the text spells the exercise, behind what was read.
+use Rattle.std.proofs.Common.{◌≡◌, ◌+◌, ◌*◌, ◌-◌, get_or, sym, ◌∙◌, arith}
 use Rattle.asking.proofs.Digits.{first_named, none_named, other_named, over-named, next_named, last_named}
 use Rattle.asking.proofs.exercise.named.Goals as goal
 
-pub returns-then-text-eq0 : goal.returns-then-text-eq0
-returns-then-text-eq0 c = sym (none_named c.args.text.now (omega arith))
+pub returns-then-is_empty : goal.returns-then-is_empty
+returns-then-is_empty c = sym (none_named c.args.text.now (grind arith))
 
-pub loop-i-init : goal.loop-i-init
-loop-i-init c = (omega arith, omega arith, first_named c.args.text.now (λ e. omega arith))
+pub loop-character-init : goal.loop-character-init
+loop-character-init c = record { within = omega arith; rest = first_named c.args.text.now (λ none. grind arith) }
 
-pub returns-then-not-is_digit : goal.returns-then-not-is_digit
-returns-then-not-is_digit c =
-    let turn = c.loop-i in
-    sym (turn.invariant.2 ∙ other_named c.args.text.now turn.i turn.value
-    (omega arith) (rw c.is_digit.ensures at c.if-not-is_digit.true))
+pub returns-then-not-is_ascii_digit : goal.returns-then-not-is_ascii_digit
+returns-then-not-is_ascii_digit c =
+    let turn = c.loop-character in
+    sym (turn.invariant.rest ∙ other_named c.args.text.now turn.character-index turn.exercise
+    c.loop-character-test.true (grind arith))
 
-pub returns-then-value-gt-LAST : goal.returns-then-value-gt-LAST
-returns-then-value-gt-LAST c =
-    let turn = c.loop-i in
-    sym (turn.invariant.2 ∙ over-named c.args.text.now turn.i turn.value (omega arith) (omega arith))
+pub returns-in_err-tens : goal.returns-in_err-tens
+returns-in_err-tens c =
+    let turn = c.loop-character in
+    rw c.from_residual.ensures (sym (turn.invariant.rest ∙ over-named c.args.text.now turn.character-index turn.exercise
+    c.loop-character-test.true (omega (arith, c.in_err-tens.ensures))))
 
-pub loop-i-preserved : goal.loop-i-preserved
-loop-i-preserved c =
-    let turn = c.loop-i in (
-      omega arith,
-      omega arith,
-      rw c.worth.ensures.0 (turn.invariant.2 ∙ next_named c.args.text.now turn.i turn.value
-          (omega arith)
-          (rw c.is_digit.ensures at c.if-not-is_digit.false)),
-    )
+pub returns-in_err-exercise : goal.returns-in_err-exercise
+returns-in_err-exercise c =
+    let turn = c.loop-character in
+    rw c.from_residual-in_err-exercise.ensures (sym (turn.invariant.rest
+    ∙ over-named c.args.text.now turn.character-index turn.exercise c.loop-character-test.true
+    (omega (arith, c.in_ok-tens.ensures, c.in_err-exercise.ensures))))
+
+pub loop-character-preserved : goal.loop-character-preserved
+loop-character-preserved c =
+    let turn = c.loop-character in
+    let more : c.in_ok-exercise.exercise ≡ 10 * turn.exercise + (get_or c.args.text.now turn.character-index 0 - 48) =
+    omega (arith, c.in_ok-tens.ensures, c.in_ok-exercise.ensures) in
+    record {
+      within = omega (arith, c.in_ok-exercise.ensures);
+      rest = rw more (turn.invariant.rest ∙ next_named c.args.text.now turn.character-index turn.exercise
+          c.loop-character-test.true (grind arith));
+    }
 
 pub returns : goal.returns
 returns c =
-    let turn = c.loop-i in
-    sym (turn.invariant.2 ∙ last_named c.args.text.now turn.i turn.value (omega arith) (omega arith))
+    let turn = c.loop-character in
+    sym (turn.invariant.rest ∙ last_named c.args.text.now turn.character-index turn.exercise
+    c.loop-character-test.false turn.invariant.within)
