@@ -13,7 +13,7 @@ ghost use Rattle.answers.specs.Encoded.{written_of, output_of, error_text, error
 ghost use Rattle.answers.specs.Enough.{sheet_room, input_room};
 
 use encoder::Encoded;
-use letters::Told;
+use letters::TooShort;
 use marker::Verdict;
 
 // One byte past the limit of a sheet; the exercise, and one byte past the limit of a submission.
@@ -67,7 +67,7 @@ pub fn marked(sheet: &[u8], input: &[u8]) -> MarkAnswer
 }
 
 // The line of that answer.
-pub fn mark_line(sheet: &[u8], input: &[u8], out: &mut [u8]) -> Told
+pub fn mark_line(sheet: &[u8], input: &[u8], out: &mut [u8]) -> Result<usize, TooShort>
     ensures { TellsWithin line_room (mark_line sheet.now input.now)
         out.old result out.new }
 {
@@ -85,7 +85,7 @@ pub fn whole_line(sheet: &[u8], input: &[u8], out: &mut [u8; LINE_ROOM]) -> usiz
 }
 
 // What `encode` writes to standard output for the exercise of an input: the encoding, or nothing where it is refused.
-pub fn encode_output(sheet: &[u8], input: &[u8], out: &mut [u8]) -> Told
+pub fn encode_output(sheet: &[u8], input: &[u8], out: &mut [u8]) -> Result<usize, TooShort>
     ensures { TellsWithin output_room (output_of sheet.now (exercise_in input.now))
         out.old result out.new }
 {
@@ -103,7 +103,7 @@ pub fn whole_output(sheet: &[u8], input: &[u8], out: &mut [u8; OUTPUT_ROOM]) -> 
 }
 
 // What it writes to standard error: the number of a refusal, or nothing.
-pub fn encode_error(sheet: &[u8], input: &[u8], out: &mut [u8]) -> Told
+pub fn encode_error(sheet: &[u8], input: &[u8], out: &mut [u8]) -> Result<usize, TooShort>
     ensures { TellsWithin error_room (error_of sheet.now (exercise_in input.now))
         out.old result out.new }
 {

@@ -15,32 +15,26 @@ const WORD_ROOM: usize = 8;
 
 const SHOWN_ROOM: usize = 4;
 
-// Whether a text was written into a buffer: so many characters, or refusal 8.
-#[derive(Clone, Copy)]
-pub enum Told {
-    Written(usize),
-    TooShort,
-}
+// Refusal 8: the buffer is too short. Else the answer is how many characters were written.
+#[derive(Clone, Copy, PartialEq, Eq)]
+pub struct TooShort;
 
 // A text at the front of a buffer, if it has room.
-pub fn tell(text: &[u8], out: &mut [u8]) -> Told
+pub fn tell(text: &[u8], out: &mut [u8]) -> Result<usize, TooShort>
     ensures { Tells text.now out.old result out.new }
 {
     if out.len() < text.len() {
-        return Told::TooShort;
+        return Err(TooShort);
     }
     room::put_bytes(text, out, 0);
-    Told::Written(text.len())
+    Ok(text.len())
 }
 
 // How many characters were written; none where the buffer was too short.
-pub fn written(told: Told) -> usize
+pub fn written(told: Result<usize, TooShort>) -> usize
     ensures { result ≡ written_of told }
 {
-    match told {
-        Told::Written(count) => count,
-        Told::TooShort => 0,
-    }
+    told.unwrap_or(0)
 }
 
 // A text from byte `at` on, and the place behind it. Where it has no room nothing is written, and the place stays.
