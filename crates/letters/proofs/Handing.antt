@@ -28,12 +28,12 @@ module _ (text out : List ℕ) where
   unfolding written
   front-written = let e : 0 + length text ≡ length text = omega arith in rw e
 
-  pub tells_written : {after : List ℕ} {end : ℕ} → length text ≤ length out → Wrote out 0 text after end
-      → Tells text out (Ok (length text)) after
+  pub tells_written : length text ≤ length out
+      → Tells text out (Ok (length text)) (text ++ drop (length text) out)
   unfolding too_short told_of buffer_of
-  tells_written h wrote =
+  tells_written h =
       let e = le-ltb (length out) (length text) h in
-      record { answers = rw e; numbered = rw e; valued = rw e; leaves = rw e (wrote.over ∙ front-written) }
+      record { answers = rw e; numbered = rw e; valued = rw e; leaves = rw e }
 
   pub front : {after : List ℕ} {end : ℕ} → Wrote out 0 text after end → take end after ≡ text
   front {after} {end} wrote =
