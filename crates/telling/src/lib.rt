@@ -36,7 +36,7 @@ fn line_told(line: Line, out: &mut [u8]) -> Result<usize, TooShort>
     ensures { TellsWithin line_room (line_text line) out.old result out.new }
 {
     let mut own = [0u8; LINE_ROOM];
-    let length = pieces::put_line(line, &mut own, 0);
+    let length = pieces::put_line(&line, &mut own, 0);
     letters::tell(&own[..length], out)
 }
 
