@@ -6,12 +6,7 @@ use native.Mathlib.Omega.{arith}
 use lib.ListN.{length, take, drop, length-drop}
 use lib.Seq.{take_all}
 use Rattle.marker.specs.Mark.{mark_of}
-use Rattle.answers.specs.Input.{exercise_in}
 use Rattle.answers.specs.Line.{with_verdict, marked_of}
-
-pub nothing_exercise : (input : List ℕ) → length input ≡ 0 → 0 ≡ exercise_in input
-nothing_exercise [] e = refl
-nothing_exercise (x ∷ xs) e = absurd (omega arith)
 
 -- what stands behind the first byte
 pub behind-first : (l : List ℕ) → take (length l - 1) (drop 1 l) ≡ drop 1 l

@@ -13,7 +13,7 @@ ghost use Rattle.answers.specs.Encoded.{written_of, output_of, error_text, error
 ghost use Rattle.answers.specs.Enough.{sheet_room, input_room};
 
 use encoder::Encoded;
-use letters::Told;
+use letters::TooShort;
 use marker::Verdict;
 
 // One byte past the limit of a sheet; the exercise, and one byte past the limit of a submission.
@@ -29,7 +29,7 @@ pub const OUTPUT_ROOM: usize = 260;
 pub const ERROR_ROOM: usize = 28;
 
 // The character that ends a line.
-const LINE_END: u8 = 10;
+const LINE_END: u8 = b'\n';
 
 // An exercise, and the number and the place of its answer.
 #[derive(Clone, Copy)]
@@ -59,15 +59,19 @@ pub fn input_buffer(exercise: u8) -> [u8; INPUT_ROOM]
 pub fn marked(sheet: &[u8], input: &[u8]) -> MarkAnswer
     ensures { result ≡ marked_of sheet.now input.now }
 {
-    if input.len() == 0 {
-        return with_verdict(0, marker::mark(sheet, 0, input));
+    match input {
+        [exercise, submission @ ..] => {
+            with_verdict(
+                *exercise,
+                marker::mark(sheet, usize::from(*exercise), submission),
+            )
+        }
+        [] => with_verdict(0, marker::mark(sheet, 0, input)),
     }
-    let exercise = input[0];
-    with_verdict(exercise, marker::mark(sheet, wide(exercise), &input[1..]))
 }
 
 // The line of that answer.
-pub fn mark_line(sheet: &[u8], input: &[u8], out: &mut [u8]) -> Told
+pub fn mark_line(sheet: &[u8], input: &[u8], out: &mut [u8]) -> Result<usize, TooShort>
     ensures { TellsWithin line_room (mark_line sheet.now input.now)
         out.old result out.new }
 {
@@ -85,7 +89,7 @@ pub fn whole_line(sheet: &[u8], input: &[u8], out: &mut [u8; LINE_ROOM]) -> usiz
 }
 
 // What `encode` writes to standard output for the exercise of an input: the encoding, or nothing where it is refused.
-pub fn encode_output(sheet: &[u8], input: &[u8], out: &mut [u8]) -> Told
+pub fn encode_output(sheet: &[u8], input: &[u8], out: &mut [u8]) -> Result<usize, TooShort>
     ensures { TellsWithin output_room (output_of sheet.now (exercise_in input.now))
         out.old result out.new }
 {
@@ -103,7 +107,7 @@ pub fn whole_output(sheet: &[u8], input: &[u8], out: &mut [u8; OUTPUT_ROOM]) -> 
 }
 
 // What it writes to standard error: the number of a refusal, or nothing.
-pub fn encode_error(sheet: &[u8], input: &[u8], out: &mut [u8]) -> Told
+pub fn encode_error(sheet: &[u8], input: &[u8], out: &mut [u8]) -> Result<usize, TooShort>
     ensures { TellsWithin error_room (error_of sheet.now (exercise_in input.now))
         out.old result out.new }
 {
@@ -126,17 +130,7 @@ pub fn whole_error(sheet: &[u8], input: &[u8], out: &mut [u8; ERROR_ROOM]) -> us
 fn exercise_in(input: &[u8]) -> usize
     ensures { result ≡ exercise_in input.now }
 {
-    if input.len() == 0 {
-        return 0;
-    }
-    wide(input[0])
-}
-
-// A byte as a number of its own.
-fn wide(byte: u8) -> usize
-    ensures { result ≡ byte }
-{
-    byte as usize
+    usize::from(input.first().copied().unwrap_or(0))
 }
 
 // An exercise, with the number and the place of a verdict.
@@ -189,8 +183,8 @@ fn put_line(marked: MarkAnswer, out: &mut [u8]) -> usize
     requires { line_room ≤ length out.old }
     ensures { Wrote out.old 0 (line_of marked) out.new result × (result ≤ line_room) }
 {
-    let one = put_labelled(b"exercise ", marked.exercise as u64, out, 0);
-    let two = put_labelled(b" answer ", marked.number as u64, out, one);
+    let one = put_labelled(b"exercise ", u64::from(marked.exercise), out, 0);
+    let two = put_labelled(b" answer ", u64::from(marked.number), out, one);
     let three = put_labelled(b" place ", marked.place as u64, out, two);
     letters::put_byte(LINE_END, out, three)
 }

@@ -1,11 +1,10 @@
 -- Texts in a buffer: one behind the other they are the joined text, and the buffer keeps its length.
 use Prim.Native.Nat.{ℕ, zero, suc, ◌+◌, ◌<◌, ◌≤◌}
-use mathlib.Core.Path.{◌≡◌, refl, sym, ap, ◌∙◌}
+use mathlib.Core.Path.{◌≡◌, sym, ap, ◌∙◌}
 use mathlib.Core.List.{List, [], ◌∷◌, ◌++◌, append_assoc, append-nil}
 use native.Mathlib.Omega.{arith}
-use native.Mathlib.Numerals.{add-one}
-use lib.ListN.{length, get_or, take, drop, set, length-append, length-drop, take-append-drop}
-use lib.Seq.{take_at, drop-append-add, drop-drop, append_snoc, set_split, length-take-le, take_all}
+use lib.ListN.{length, get_or, take, drop, length-append, length-drop, take-append-drop}
+use lib.Seq.{take_at, drop-append-add, drop-drop, length-take-le, take_all}
 use Rattle.letters.specs.Letters.{joined, written, Wrote}
 
 module _ (out : List ℕ) (at : ℕ) where
@@ -60,18 +59,6 @@ module _ (out : List ℕ) (at : ℕ) where
         over = let e : at + 0 ≡ at = omega arith in sym (rw (e, append-nil (take at out)) (take-append-drop at out));
         to = omega arith;
       }
-
-  -- one character
-  pub wrote_byte : (byte : ℕ) → at < length out → Wrote out at (byte ∷ []) (set out at byte) (at + 1)
-  unfolding written
-  wrote_byte byte h = record {
-    over = set_split out at byte h ∙ sym (rw (
-      add-one,
-      append_snoc (take at out) byte
-          (drop (suc at) out),
-    ));
-    to = refl;
-  }
 
 -- ---- a loop that writes the text of each element of a list
 

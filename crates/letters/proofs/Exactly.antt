@@ -1,6 +1,7 @@
 -- What a telling promises settles all: the refusal comes exactly if the buffer is shorter than the text and leaves it
 -- as it was, and no second answer would do.
 use Prim.Native.Nat.{ℕ, ◌<◌, ◌≤◌}
+use Rattle.std.specs.Prelude.{Result}
 use mathlib.Core.Path.{◌≡◌, refl, sym, ◌∙◌}
 use mathlib.Core.List.{List}
 use mathlib.Core.Bool.{Bool, true, false, cond}
@@ -10,7 +11,7 @@ use lib.ListN.{length}
 use borrow.Author.Tests.{lt-ltb, le-ltb, ltb-true}
 use Rattle.letters.specs.Letters.{Wrote, Put}
 use Rattle.letters.specs.Told.{too_short, told_of, buffer_of, told_number, Tells, TellsWithin}
-use Rattle.letters.specs.declared.Told.{Told}
+use Rattle.letters.specs.declared.TooShort.{TooShort}
 
 -- there is such an answer: the definitions meet the promise themselves
 pub told_tells : (text out : List ℕ) → Tells text out (told_of text out) (buffer_of text out)
@@ -22,12 +23,12 @@ told_tells text out = by_test (too_short text out) refl
     by_test false e = record { answers = refl; numbered = rw e; valued = rw e; leaves = refl }
 
 -- 8 exactly if the buffer is shorter than the text
-pub eight-if : {text out after : List ℕ} {answer : Told} → Tells text out answer after → length out < length text
+pub eight-if : {text out after : List ℕ} {answer : Result ℕ TooShort} → Tells text out answer after → length out < length text
     → told_number answer ≡ 8
 unfolding too_short
 eight-if {text} {out} tells h = tells.numbered ∙ rw (lt-ltb (length out) (length text) h)
 
-pub eight_only : {text out after : List ℕ} {answer : Told} → Tells text out answer after → told_number answer ≡ 8
+pub eight_only : {text out after : List ℕ} {answer : Result ℕ TooShort} → Tells text out answer after → told_number answer ≡ 8
     → length out < length text
 unfolding too_short
 eight_only {text} {out} tells e = by_test (ltb (length out) (length text)) refl (sym tells.numbered ∙ e)
@@ -38,13 +39,13 @@ eight_only {text} {out} tells e = by_test (ltb (length out) (length text)) refl 
     by_test false t e = absurd (omega arith)
 
 -- a buffer that is no shorter is enough
-pub enough : {text out after : List ℕ} {answer : Told} → Tells text out answer after → length text ≤ length out
+pub enough : {text out after : List ℕ} {answer : Result ℕ TooShort} → Tells text out answer after → length text ≤ length out
     → told_number answer ≡ 0
 unfolding too_short
 enough {text} {out} tells h = tells.numbered ∙ rw (le-ltb (length out) (length text) h)
 
 -- on a refusal the buffer is as it was
-pub eight-same : {text out after : List ℕ} {answer : Told} → Tells text out answer after → told_number answer ≡ 8
+pub eight-same : {text out after : List ℕ} {answer : Result ℕ TooShort} → Tells text out answer after → told_number answer ≡ 8
     → after ≡ out
 unfolding too_short buffer_of
 eight-same {text} {out} tells e =
@@ -52,11 +53,11 @@ eight-same {text} {out} tells e =
 
 -- ---- no second answer, and no second buffer
 
-pub one_answer : {text out after after' : List ℕ} {answer answer' : Told} → Tells text out answer after
+pub one_answer : {text out after after' : List ℕ} {answer answer' : Result ℕ TooShort} → Tells text out answer after
     → Tells text out answer' after' → (answer ≡ answer') × (after ≡ after')
 one_answer tells tells' = (tells.answers ∙ sym tells'.answers, tells.leaves ∙ sym tells'.leaves)
 
-pub one_within : {room : ℕ} {text out after after' : List ℕ} {answer answer' : Told}
+pub one_within : {room : ℕ} {text out after after' : List ℕ} {answer answer' : Result ℕ TooShort}
     → TellsWithin room text out answer after → TellsWithin room text out answer' after'
     → (answer ≡ answer') × (after ≡ after')
 one_within told told' = one_answer told.tells told'.tells

@@ -1,6 +1,8 @@
 -- The laws of the floor `letters`.
 pub mod Buffers
 pub mod Digits
+pub mod Decimals
+pub mod Bytes
 pub mod Sizes
 pub mod Handing
 pub mod Puts

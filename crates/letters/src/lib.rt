@@ -2,45 +2,34 @@
 // Refused, with number 8 (`tell`): a buffer that is too short; it is then as it was.
 #![tactic(auto)]
 
-ghost use Rattle.std.specs.Prelude.{◌≡◌, [], ◌∷◌};
-ghost use Rattle.letters.specs.Letters.{Put, decimal_of, letters_of, hex_four, last_two, character_text};
+ghost use Rattle.std.specs.Prelude.{◌≡◌, [], ◌∷◌, ◌<◌};
+ghost use Rattle.letters.specs.Letters.{Put, hex_digit, decimal_of, letters_of, hex_four, last_two, is_shown};
+ghost use Rattle.letters.specs.Letters.{character_text};
 ghost use Rattle.letters.specs.Told.{Tells, written_of};
 
-mod room;
+use itoa::Buffer;
 
-// Room for the digits of any number, for the letters of any word, and for a character as it is shown.
-const NUMBER_ROOM: usize = 20;
-
-const WORD_ROOM: usize = 8;
-
-const SHOWN_ROOM: usize = 4;
-
-// Whether a text was written into a buffer: so many characters, or refusal 8.
-#[derive(Clone, Copy)]
-pub enum Told {
-    Written(usize),
-    TooShort,
-}
+// Refusal 8: the buffer is too short. Else the answer is how many characters were written.
+#[derive(Clone, Copy, PartialEq, Eq)]
+pub struct TooShort;
 
 // A text at the front of a buffer, if it has room.
-pub fn tell(text: &[u8], out: &mut [u8]) -> Told
+pub fn tell(text: &[u8], out: &mut [u8]) -> Result<usize, TooShort>
     ensures { Tells text.now out.old result out.new }
 {
-    if out.len() < text.len() {
-        return Told::TooShort;
+    let length = text.len();
+    if out.len() < length {
+        return Err(TooShort);
     }
-    room::put_bytes(text, out, 0);
-    Told::Written(text.len())
+    out[..length].copy_from_slice(text);
+    Ok(length)
 }
 
 // How many characters were written; none where the buffer was too short.
-pub fn written(told: Told) -> usize
+pub fn written(told: Result<usize, TooShort>) -> usize
     ensures { result ≡ written_of told }
 {
-    match told {
-        Told::Written(count) => count,
-        Told::TooShort => 0,
-    }
+    told.unwrap_or(0)
 }
 
 // A text from byte `at` on, and the place behind it. Where it has no room nothing is written, and the place stays.
@@ -50,63 +39,84 @@ pub fn put(text: &[u8], out: &mut [u8], at: usize) -> usize
     if out.len() < at {
         return at;
     }
-    if out.len() - at < text.len() {
-        return at;
-    }
-    room::put_bytes(text, out, at)
+    at + written(tell(text, &mut out[at..]))
 }
 
 // One character, as it is.
 pub fn put_byte(byte: u8, out: &mut [u8], at: usize) -> usize
     ensures { Put (byte ∷ []) out.old at out.new result }
 {
-    if at < out.len() {
-        return room::put_byte(byte, out, at);
-    }
-    at
+    put(&[byte], out, at)
 }
 
 // A number in decimal digits.
 pub fn put_number(number: u64, out: &mut [u8], at: usize) -> usize
     ensures { Put (decimal_of number) out.old at out.new result }
 {
-    let mut own = [0u8; NUMBER_ROOM];
-    let length = room::put_number(number, &mut own, 0);
-    put(&own[..length], out, at)
+    put(Buffer::new().format(number).as_bytes(), out, at)
 }
 
-// The letters of a word.
+// The letters of a word: the bytes of its number from the first that is not 0 on, or the last.
 pub fn put_word(letters: u64, out: &mut [u8], at: usize) -> usize
     ensures { Put (letters_of letters) out.old at out.new result }
 {
-    let mut own = [0u8; WORD_ROOM];
-    let length = room::put_word(letters, &mut own, 0);
-    put(&own[..length], out, at)
+    let bytes = letters.to_be_bytes();
+    let first = (letters.leading_zeros() / 8).min(7) as usize;
+    put(&bytes[first..], out, at)
 }
 
 // A word of a group in four hexadecimal digits.
 pub fn put_hex(word: u16, out: &mut [u8], at: usize) -> usize
     ensures { Put (hex_four word) out.old at out.new result }
 {
-    let mut own = [0u8; SHOWN_ROOM];
-    let length = room::put_hex(word, &mut own, 0);
-    put(&own[..length], out, at)
+    let [high, low] = word.to_be_bytes();
+    let digits = [
+        hex_digit(high / 16),
+        hex_digit(high % 16),
+        hex_digit(low / 16),
+        hex_digit(low % 16),
+    ];
+    put(&digits, out, at)
 }
 
 // The last two digits of a decimal number.
 pub fn put_last_two(number: u8, out: &mut [u8], at: usize) -> usize
     ensures { Put (last_two number) out.old at out.new result }
 {
-    let mut own = [0u8; SHOWN_ROOM];
-    let length = room::put_last_two(number, &mut own, 0);
-    put(&own[..length], out, at)
+    put(&[b'0' + number / 10 % 10, b'0' + number % 10], out, at)
 }
 
-// A character of a name or a text, as it is shown.
+// A character of a name or a text, as it is shown: where it isn't itself, a backslash, an x and two hex digits.
 pub fn put_character(character: u8, out: &mut [u8], at: usize) -> usize
     ensures { Put (character_text character) out.old at out.new result }
 {
-    let mut own = [0u8; SHOWN_ROOM];
-    let length = room::put_character(character, &mut own, 0);
-    put(&own[..length], out, at)
+    if is_shown(character) {
+        return put_byte(character, out, at);
+    }
+    let shown = [
+        b'\\',
+        b'x',
+        hex_digit(character / 16),
+        hex_digit(character % 16),
+    ];
+    put(&shown, out, at)
+}
+
+// Whether a character is shown as it is.
+fn is_shown(character: u8) -> bool
+    ensures { result ≡ is_shown character }
+{
+    (b' '..=b'~').contains(&character) && character != b'\\'
+}
+
+// A digit of a hexadecimal number, 0 to 15.
+fn hex_digit(digit: u8) -> u8
+    requires { digit < 16 }
+    ensures { result ≡ hex_digit digit }
+{
+    if digit < 10 {
+        b'0' + digit
+    } else {
+        b'A' + (digit - 10)
+    }
 }

@@ -1,4 +1,3 @@
 -- The laws of what is heard of a recording.
-pub mod Rounds
 pub mod Advances
 pub mod Pieces

@@ -4,13 +4,10 @@
 
 ghost use Rattle.std.specs.Prelude.{◌≡◌, ◌≤◌, length};
 ghost use Rattle.letters.specs.Letters.{Wrote};
-ghost use Rattle.telling.specs.Pieces.{line_text};
-ghost use Rattle.telling.specs.Lines.{lock_line, lost_line, group_text};
 ghost use Rattle.recording.specs.Ear.{fresh_ear, heard_of};
 ghost use Rattle.recording.specs.Lines.{bit_before, bits_after, group_line, lock_line_of, record_text, counts_text};
 
 use counts::Counts;
-use groups::Group;
 use receiver::{Advanced, Answer, Receiver};
 use station::Record;
 use telling::{GROUP_ROOM, LINE_ROOM, STATION_ROOM};
@@ -22,9 +19,6 @@ pub struct Ear {
     pub station: Record,
     pub counts: Counts,
 }
-
-// Bytes past which eight times their number would not fit: 2 to the 61.
-const BYTES_LIMIT: u64 = 2_305_843_009_213_693_952;
 
 const BYTE_BITS: u64 = 8;
 
@@ -43,15 +37,10 @@ pub fn fresh() -> Ear
 pub fn heard(ear: Ear, taken: Advanced) -> Ear
     ensures { result ≡ heard_of ear taken }
 {
-    let next = taken.next;
-    let answer = taken.answer;
-    let group = taken.group;
-    let station = ear.station;
-    let counts = ear.counts;
     Ear {
-        receiver: next,
-        station: station::updated(station, group),
-        counts: counts::counted(counts, answer, group),
+        receiver: taken.next,
+        station: station::updated(ear.station, taken.group),
+        counts: counts::counted(ear.counts, taken.answer, taken.group),
     }
 }
 
@@ -59,8 +48,7 @@ pub fn heard(ear: Ear, taken: Advanced) -> Ear
 pub fn bits_after(before: u64, bytes: usize) -> u64
     ensures { result ≡ bits_after before bytes }
 {
-    let whole = (bytes as u64) % BYTES_LIMIT * BYTE_BITS;
-    std::num::wrapping_add_u64(before, whole)
+    before.wrapping_add((bytes as u64).wrapping_mul(BYTE_BITS))
 }
 
 // The line of an answer's group, unless the summary alone is asked for.
@@ -71,16 +59,11 @@ pub fn group_line(ear: Ear, taken: Advanced, short: bool, out: &mut [u8; GROUP_R
     if short {
         return 0;
     }
-    let counts = ear.counts;
-    let answer = taken.answer;
-    let group = taken.group;
-    match answer {
-        Answer::Nothing => 0,
-        Answer::Locked => 0,
-        Answer::Group => whole_group(counts.groups, group, out),
-        Answer::Lost => 0,
-        Answer::GroupAndLost => whole_group(counts.groups, group, out),
-        Answer::Refused => 0,
+    match taken.answer {
+        Answer::Group | Answer::GroupAndLost => {
+            letters::written(telling::group(ear.counts.groups, taken.group, out))
+        }
+        Answer::Nothing | Answer::Locked | Answer::Lost | Answer::Refused => 0,
     }
 }
 
@@ -93,14 +76,10 @@ pub fn lock_line(taken: Advanced, before: u64, short: bool, out: &mut [u8; LINE_
         return 0;
     }
     let bit = bit_before(before, taken.byte, taken.bit);
-    let answer = taken.answer;
-    match answer {
-        Answer::Nothing => 0,
-        Answer::Locked => whole_lock(bit, out),
-        Answer::Group => 0,
-        Answer::Lost => whole_loss(bit, out),
-        Answer::GroupAndLost => whole_loss(bit, out),
-        Answer::Refused => 0,
+    match taken.answer {
+        Answer::Locked => letters::written(telling::lock(bit, out)),
+        Answer::Lost | Answer::GroupAndLost => letters::written(telling::lost(bit, out)),
+        Answer::Nothing | Answer::Group | Answer::Refused => 0,
     }
 }
 
@@ -109,8 +88,7 @@ pub fn record_lines(ear: Ear, out: &mut [u8; STATION_ROOM]) -> usize
     ensures { Wrote out.old 0 (record_text ear) out.new result
         × (result ≤ length out.new) }
 {
-    let station = ear.station;
-    letters::written(telling::record_lines(station, out))
+    letters::written(telling::record_lines(ear.station, out))
 }
 
 // The lines of the counts.
@@ -118,37 +96,14 @@ pub fn count_lines(ear: Ear, out: &mut [u8; LINE_ROOM]) -> usize
     ensures { Wrote out.old 0 (counts_text ear) out.new result
         × (result ≤ length out.new) }
 {
-    let counts = ear.counts;
-    letters::written(telling::count_lines(counts, out))
+    letters::written(telling::count_lines(ear.counts, out))
 }
 
 // The number of the bit before a place, where so many bits came before the piece.
 fn bit_before(before: u64, byte: usize, bit: u8) -> u64
     ensures { result ≡ bit_before before byte bit }
 {
-    let whole = (byte as u64) % BYTES_LIMIT * BYTE_BITS;
-    let place = std::num::wrapping_add_u64(std::num::wrapping_add_u64(before, whole), bit as u64);
-    std::num::wrapping_sub_u64(place, 1)
-}
-
-// Lines in buffers that always have room for them.
-fn whole_group(number: u64, group: Group, out: &mut [u8; GROUP_ROOM]) -> usize
-    ensures { Wrote out.old 0 (group_text number group) out.new result
-        × (result ≤ length out.new) }
-{
-    letters::written(telling::group(number, group, out))
-}
-
-fn whole_lock(bit: u64, out: &mut [u8; LINE_ROOM]) -> usize
-    ensures { Wrote out.old 0 (line_text (lock_line bit)) out.new result
-        × (result ≤ length out.new) }
-{
-    letters::written(telling::lock(bit, out))
-}
-
-fn whole_loss(bit: u64, out: &mut [u8; LINE_ROOM]) -> usize
-    ensures { Wrote out.old 0 (line_text (lost_line bit)) out.new result
-        × (result ≤ length out.new) }
-{
-    letters::written(telling::lost(bit, out))
+    bits_after(before, byte)
+        .wrapping_add(u64::from(bit))
+        .wrapping_sub(1)
 }

@@ -13,11 +13,9 @@ use frequencies::AfList;
 use station::{HeldFlag, HeldPi, Record, read};
 
 // The marks of a pair that was seen, and of one that was not.
-const SEEN: u8 = 43;
+const SEEN: u8 = b'+';
 
-const UNSEEN: u8 = 45;
-
-const SPACE: u8 = 32;
+const UNSEEN: u8 = b'-';
 
 // The PI, or that there is none.
 fn pi_piece(held: HeldPi) -> Piece
@@ -47,7 +45,7 @@ fn station_line(station: Record) -> Line
     line[0] = Piece::Word(words::HELD_PI);
     line[1] = pi_piece(read::pi(station));
     line[2] = Piece::Word(words::HELD_PTY);
-    line[3] = Piece::Number(read::pty(station) as u64);
+    line[3] = Piece::Number(u64::from(read::pty(station)));
     line[4] = Piece::Word(words::HELD_TP);
     line[5] = lines::bit(read::tp(station));
     line[6] = Piece::Word(words::HELD_NAME);
@@ -63,9 +61,9 @@ fn list_line(station: Record) -> Line
     line[0] = Piece::Word(words::HELD_FLAG);
     line[1] = flag_piece(read::text_flag(station));
     line[2] = Piece::Word(words::HELD_AF);
-    line[3] = Piece::Number(frequencies::held(list) as u64);
+    line[3] = Piece::Number(u64::from(frequencies::held(list)));
     line[4] = Piece::Word(words::OF);
-    line[5] = Piece::Number(frequencies::expected(list) as u64);
+    line[5] = Piece::Number(u64::from(frequencies::expected(list)));
     line
 }
 
@@ -76,10 +74,8 @@ fn put_characters(characters: &[u8], out: &mut [u8], at: usize) -> usize
         × (result ≤ at + 4 * length characters.now) }
 {
     let mut next = at;
-    let mut i: usize = 0;
-    while i < characters.len() {
-        next = letters::put_character(characters[i], out, next);
-        i += 1;
+    for character in characters {
+        next = letters::put_character(*character, out, next);
     }
     next
 }
@@ -88,10 +84,7 @@ fn put_characters(characters: &[u8], out: &mut [u8], at: usize) -> usize
 fn mark(seen: bool) -> u8
     ensures { result ∷ [] ≡ mark_text seen }
 {
-    if seen {
-        return SEEN;
-    }
-    UNSEEN
+    if seen { SEEN } else { UNSEEN }
 }
 
 // The marks of pairs, one behind the other.
@@ -101,10 +94,8 @@ fn put_marks(seen: &[bool], out: &mut [u8], at: usize) -> usize
         × (result ≤ at + length seen.now) }
 {
     let mut next = at;
-    let mut i: usize = 0;
-    while i < seen.len() {
-        next = letters::put_byte(mark(seen[i]), out, next);
-        i += 1;
+    for pair in seen {
+        next = letters::put_byte(mark(*pair), out, next);
     }
     next
 }
@@ -117,9 +108,9 @@ fn put_shown(line: Line, characters: &[u8], seen: &[bool], out: &mut [u8], at: u
         (line_text line ++ shown_text characters.now seen.now) out.new result
         × (result ≤ at + 4 * length characters.now + length seen.now + 640) }
 {
-    let one = pieces::put_line(line, out, at);
+    let one = pieces::put_line(&line, out, at);
     let two = put_characters(characters, out, one);
-    let three = pieces::put_line(lines::one_word(words::SEEN), out, two);
+    let three = pieces::put_line(&lines::one_word(words::SEEN), out, two);
     put_marks(seen, out, three)
 }
 
@@ -150,8 +141,8 @@ fn put_frequency(khz: u32, out: &mut [u8], at: usize) -> usize
     requires { at + 21 ≤ length out.old }
     ensures { Wrote out.old at (32 ∷ decimal_of khz) out.new result × (result ≤ at + 21) }
 {
-    let next = letters::put_byte(SPACE, out, at);
-    letters::put_number(khz as u64, out, next)
+    let next = letters::put_byte(b' ', out, at);
+    letters::put_number(u64::from(khz), out, next)
 }
 
 // The frequencies held.
@@ -160,12 +151,9 @@ fn put_frequencies(list: AfList, out: &mut [u8], at: usize) -> usize
     ensures { Wrote out.old at (frequencies_to list (held_of list)) out.new result
         × (result ≤ at + 5355) }
 {
-    let count = frequencies::held(list) as usize;
     let mut next = at;
-    let mut i: usize = 0;
-    while i < count {
+    for i in 0..usize::from(frequencies::held(list)) {
         next = put_frequency(frequencies::at(list, i), out, next);
-        i += 1;
     }
     next
 }
@@ -175,12 +163,12 @@ fn put_rest(station: Record, out: &mut [u8], at: usize) -> usize
     requires { at + 6315 ≤ length out.old }
     ensures { Wrote out.old at (rest_text station) out.new result × (result ≤ at + 6315) }
 {
-    let one = pieces::put_line(list_line(station), out, at);
+    let one = pieces::put_line(&list_line(station), out, at);
     let two = put_frequencies(read::af_list(station), out, one);
     let held = read::held_clock(station);
-    let three = pieces::put_line(lines::clock_line(words::HELD_CLOCK, held), out, two);
+    let three = pieces::put_line(&lines::clock_line(words::HELD_CLOCK, held), out, two);
     let local = clock::local_date(held);
-    pieces::put_line(lines::local_line(words::HELD_LOCAL, local), out, three)
+    pieces::put_line(&lines::local_line(words::HELD_LOCAL, local), out, three)
 }
 
 // All that is held of a station, at the front of a buffer that has room for it.

@@ -18,7 +18,7 @@ mod words;
 
 use counts::Counts;
 use groups::Group;
-use letters::Told;
+use letters::TooShort;
 use lines::Line;
 use station::Record;
 
@@ -31,31 +31,31 @@ pub const GROUP_ROOM: usize = 1024;
 pub const STATION_ROOM: usize = 7919;
 
 // A line of pieces at the front of a buffer, if it has room.
-fn line_told(line: Line, out: &mut [u8]) -> Told
+fn line_told(line: Line, out: &mut [u8]) -> Result<usize, TooShort>
     requires { length line ≡ 16 }
     ensures { TellsWithin line_room (line_text line) out.old result out.new }
 {
     let mut own = [0u8; LINE_ROOM];
-    let length = pieces::put_line(line, &mut own, 0);
+    let length = pieces::put_line(&line, &mut own, 0);
     letters::tell(&own[..length], out)
 }
 
 // That lock was taken with a bit; the first bit of a recording is bit 0.
-pub fn lock(bit: u64, out: &mut [u8]) -> Told
+pub fn lock(bit: u64, out: &mut [u8]) -> Result<usize, TooShort>
     ensures { TellsWithin line_room (line_text (lock_line bit)) out.old result out.new }
 {
     line_told(lines::with_bit(words::LOCK, bit), out)
 }
 
 // That lock was lost with a bit.
-pub fn lost(bit: u64, out: &mut [u8]) -> Told
+pub fn lost(bit: u64, out: &mut [u8]) -> Result<usize, TooShort>
     ensures { TellsWithin line_room (line_text (lost_line bit)) out.old result out.new }
 {
     line_told(lines::with_bit(words::LOST, bit), out)
 }
 
 // The line of a group, with its number in the recording.
-pub fn group(number: u64, group: Group, out: &mut [u8]) -> Told
+pub fn group(number: u64, group: Group, out: &mut [u8]) -> Result<usize, TooShort>
     ensures { TellsWithin group_room (group_text number group) out.old result out.new }
 {
     let mut own = [0u8; GROUP_ROOM];
@@ -64,7 +64,7 @@ pub fn group(number: u64, group: Group, out: &mut [u8]) -> Told
 }
 
 // All that is held of a station.
-pub fn record_lines(station: Record, out: &mut [u8]) -> Told
+pub fn record_lines(station: Record, out: &mut [u8]) -> Result<usize, TooShort>
     ensures { TellsWithin station_room (station_text station) out.old result out.new }
 {
     let mut own = [0u8; STATION_ROOM];
@@ -73,7 +73,7 @@ pub fn record_lines(station: Record, out: &mut [u8]) -> Told
 }
 
 // The counts of a recording.
-pub fn count_lines(counts: Counts, out: &mut [u8]) -> Told
+pub fn count_lines(counts: Counts, out: &mut [u8]) -> Result<usize, TooShort>
     ensures { TellsWithin line_room (line_text (counts_line counts)) out.old result out.new }
 {
     line_told(totals::lines_of(counts), out)

@@ -20,11 +20,11 @@ use groups::fields::Content;
 pub(crate) type Line = [Piece; 16];
 
 // The signs between pieces.
-pub(crate) const SPACE: Piece = Piece::Character(32);
+pub(crate) const SPACE: Piece = Piece::Character(b' ');
 
-const HYPHEN: Piece = Piece::Character(45);
+const HYPHEN: Piece = Piece::Character(b'-');
 
-const COLON: Piece = Piece::Character(58);
+const COLON: Piece = Piece::Character(b':');
 
 const END: Piece = Piece::Word(words::END);
 
@@ -35,16 +35,13 @@ const QUOTE_OPENS: Piece = Piece::Word(words::QUOTE_OPENS);
 const QUOTE_CLOSES: Piece = Piece::Word(words::QUOTE_CLOSES);
 
 // The letter of version 0.
-const LETTER_A: u8 = 65;
+const LETTER_A: u8 = b'A';
 
 // A yes or no as 1 or 0.
 pub(crate) fn bit(flag: bool) -> Piece
     ensures { result ≡ bit_piece flag }
 {
-    if flag {
-        return Piece::Number(1);
-    }
-    Piece::Number(0)
+    Piece::Number(u64::from(flag))
 }
 
 // A label and the number of a bit: lock was taken with it, or lost.
@@ -82,7 +79,7 @@ fn type_piece(group: Group) -> Piece
     ensures { result ≡ type_piece group }
 {
     if groups::good(group, 1) {
-        return Piece::Number((groups::word(group, 1) / 4096) as u64);
+        return Piece::Number(u64::from(groups::word(group, 1) / 4096));
     }
     Piece::Word(words::NO_TYPE)
 }
@@ -158,7 +155,7 @@ fn name(address: u8, pair: u16) -> Line
 {
     [
         Piece::Word(words::NAME),
-        Piece::Number(address as u64),
+        Piece::Number(u64::from(address)),
         QUOTE_OPENS,
         first(pair),
         second(pair),
@@ -197,7 +194,7 @@ fn text(address: u8, flag: bool, pair: u16) -> Line
 {
     [
         Piece::Word(words::TEXT),
-        Piece::Number(address as u64),
+        Piece::Number(u64::from(address)),
         Piece::Word(words::FLAG),
         bit(flag),
         QUOTE_OPENS,
@@ -396,7 +393,7 @@ pub(crate) fn put_group(number: u64, group: Group, out: &mut [u8]) -> usize
     requires { 1024 ≤ length out.old }
     ensures { Wrote out.old 0 (group_text number group) out.new result × (result ≤ 1024) }
 {
-    let one = pieces::put_line(head(number, group), out, 0);
-    let two = pieces::put_line(carried(group), out, one);
-    pieces::put_line(closing(group), out, two)
+    let one = pieces::put_line(&head(number, group), out, 0);
+    let two = pieces::put_line(&carried(group), out, one);
+    pieces::put_line(&closing(group), out, two)
 }

@@ -1,5 +1,5 @@
 // The pieces that a line is made of, and a line into a buffer that has room for it.
-ghost use Rattle.std.specs.Prelude.{◌≡◌, ◌+◌, ◌≤◌, length};
+ghost use Rattle.std.specs.Prelude.{◌+◌, ◌*◌, ◌≤◌, length};
 ghost use Rattle.letters.specs.Letters.{Wrote};
 ghost use Rattle.telling.specs.Pieces.{piece_text, line_text};
 
@@ -30,17 +30,14 @@ fn put_piece(piece: Piece, out: &mut [u8], at: usize) -> usize
     }
 }
 
-// Sixteen pieces, one behind the other.
-pub(crate) fn put_line(line: [Piece; 16], out: &mut [u8], at: usize) -> usize
-    requires { (at + 320 ≤ length out.old) × (length line ≡ 16) }
-    ensures { Wrote out.old at (line_text line) out.new result × (result ≤ at + 320) }
+// Pieces, one behind the other.
+pub(crate) fn put_line(line: &[Piece], out: &mut [u8], at: usize) -> usize
+    requires { at + 20 * length line.now ≤ length out.old }
+    ensures { Wrote out.old at (line_text line.now) out.new result × (result ≤ at + 20 * length line.now) }
 {
     let mut next = at;
-    let mut i: usize = 0;
-    while i < 16 {
-        let piece = line[i];
-        next = put_piece(piece, out, next);
-        i += 1;
+    for piece in line {
+        next = put_piece(*piece, out, next);
     }
     next
 }

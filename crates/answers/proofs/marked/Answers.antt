@@ -5,13 +5,13 @@ use Rattle.answers.specs.Line.{marked_of}
 use Rattle.answers.proofs.Lines.{nothing-marked, behind-first}
 use Rattle.answers.proofs.marked.Goals as goal
 
-pub returns-then-input-eq0 : goal.returns-then-input-eq0
-returns-then-input-eq0 c =
+pub returns-in-empty : goal.returns-in-empty
+returns-in-empty c =
     rw c.mark.ensures.0 at c.with_verdict.ensures
     ∙ nothing-marked c.args.sheet.now c.args.input.now (omega arith)
 
-pub returns : goal.returns
+pub returns-in-len1-up : goal.returns-in-len1-up
 unfolding marked_of
-returns c =
+returns-in-len1-up c =
     let behind = behind-first c.args.input.now in
-    rw (c.mark-2.ensures.0, c.wide.ensures, behind) at c.with_verdict-2.ensures
+    rw (c.mark-in-len1-up.ensures.0, c.from.ensures, behind) at c.with_verdict-in-len1-up.ensures

@@ -12,4 +12,5 @@ returns c =
     let end = put_wrote (omega arith) c.put_byte.ensures in
     let two = wrote_two out 0 (omega arith) c.put_labelled-one.ensures.0 c.put_labelled-two.ensures.0 in
     let three = wrote_two out 0 (omega arith) two c.put_labelled-three.ensures.0 in
-    (wrote_two out 0 (omega arith) three end, omega arith)
+    let line = wrote_two out 0 (omega arith) three end in
+    (rw (c.from.ensures, c.from-2.ensures) at line, omega arith)

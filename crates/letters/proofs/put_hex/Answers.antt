@@ -1,17 +1,14 @@
--- `letters::put_hex` meets its promise: the digits are written into a buffer of our own, and put.
+-- `letters::put_hex` meets its promise: the two bytes of the word, two digits each.
+use Prim.Native.Nat.{◌/◌, ◌%◌, ◌^◌}
+use mathlib.Core.Path.{◌≡◌}
 use native.Mathlib.Omega.{arith}
-use Rattle.letters.proofs.Sizes.{hex_most}
-use Rattle.letters.proofs.Handing.{count_front}
-use Rattle.letters.proofs.Puts.{put_front}
+use Rattle.letters.specs.Letters.{hex_four}
 use Rattle.letters.proofs.put_hex.Goals as goal
 
-pub slice_bounds-own-end : goal.slice_bounds-own-end
-slice_bounds-own-end c =
-    omega (arith, hex_most c.args.word, c.put_hex-length.ensures.to)
-
-pub slice_bounds-put-end : goal.slice_bounds-put-end
-slice_bounds-put-end c = count_front _ _ c.put_hex-length.ensures
-
 pub returns : goal.returns
+unfolding hex_four
 returns c =
-    put_front c.put_hex-length.ensures c.put.ensures
+    let high : c.args.word / 256 ^ 1 % 256 ≡ c.args.word / 256 = omega arith in
+    let digits = rw (c.hex_digit.ensures, c.hex_digit-2.ensures, c.hex_digit-3.ensures, c.hex_digit-4.ensures) at
+    c.put.ensures in
+    rw (c.to_be_bytes.ensures, high) at digits

@@ -4,6 +4,8 @@ use Rattle.telling.proofs.held.list_line.Goals as goal
 pub returns : goal.returns
 returns c =
     rw (
+      c.from.ensures,
+      c.from-2.ensures,
       c.flag_piece.ensures,
       c.text_flag.ensures.0,
       c.held.ensures,

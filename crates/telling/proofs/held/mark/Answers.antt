@@ -4,5 +4,5 @@ use Rattle.telling.proofs.held.mark.Goals as goal
 pub returns-then-seen : goal.returns-then-seen
 returns-then-seen c = rw c.if-seen.true
 
-pub returns : goal.returns
-returns c = rw c.if-seen.false
+pub returns-else-seen : goal.returns-else-seen
+returns-else-seen c = rw c.if-seen.false

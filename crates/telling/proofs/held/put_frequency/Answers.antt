@@ -9,5 +9,5 @@ pub returns : goal.returns
 returns c =
     let most = decimal_most c.args.khz (omega arith) in
     let one = put_wrote (omega arith) c.put_byte-next.ensures in
-    let two = put_wrote (omega arith) c.put_number.ensures in
+    let two = put_wrote (omega arith) (rw c.from.ensures at c.put_number.ensures) in
     (wrote_two c.args.out.now c.args.at (omega arith) one two, omega arith)

@@ -4,6 +4,7 @@ use Rattle.telling.proofs.held.station_line.Goals as goal
 pub returns : goal.returns
 returns c =
     rw (
+      c.from.ensures,
       c.pi_piece.ensures,
       c.pi.ensures.0,
       c.pty.ensures,

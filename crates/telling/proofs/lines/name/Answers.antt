@@ -2,4 +2,4 @@
 use Rattle.telling.proofs.lines.name.Goals as goal
 
 pub returns : goal.returns
-returns c = rw (c.first.ensures, c.second.ensures)
+returns c = rw (c.from.ensures, c.first.ensures, c.second.ensures)
