@@ -8,13 +8,9 @@ pub const NAME_ROOM: usize = 4096;
 
 // How many arguments there are, the program's own name among them.
 pub fn count(rt: &impl Env) -> usize {
-    let mut none = [0u8; 0];
-    for number in 0..usize::MAX {
-        if let Err(FillError::NotPresent) = rt.arg(number, &mut none) {
-            return number;
-        }
-    }
-    usize::MAX
+    (0..usize::MAX)
+        .take_while(|number| !matches!(rt.arg(*number, &mut []), Err(FillError::NotPresent)))
+        .count()
 }
 
 // Puts an argument at the start of a buffer, and answers how many bytes it has; 0 where there is none, or where it is

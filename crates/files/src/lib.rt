@@ -61,7 +61,8 @@ pub fn open<R: Files + Input>(
     }
 }
 
-// Reads a file into a buffer, at most as much as it holds; one that cannot be read, also midway, has length 0.
+// Reads a file into a buffer, at most as much as it holds; one that cannot be read, also midway, has length 0. The answer
+// is a number, and no slice of the buffer: the promise speaks of the buffer at exit, which a slice would take along.
 pub fn read_file(
     rt: &(impl Files + Input),
     errors: &impl Print,
@@ -92,9 +93,11 @@ pub fn say_failed(errors: &impl Print, name: &[u8], error: Error) {
     }
 }
 
-// Says that a write to standard output has failed.
-pub fn say_lost(errors: &impl Print, error: Error) {
-    fail(errors, b"standard output", error);
+// Says why a write to standard output has failed, where it has, and hands on what it answered.
+pub fn say_lost(errors: &impl Print, written: io::Result<()>) -> io::Result<()>
+    ensures { result ≡ written }
+{
+    written.inspect_err(|error| fail(errors, b"standard output", *error))
 }
 
 // Opens a file by its name, which is to be text.

@@ -1,8 +1,8 @@
--- `listening::hear_file`: a call brings no more than the piece holds.
+-- `listening::Listener::hear_file`: a call brings no more than the piece holds.
 use Rattle.std.proofs.Common.{arith}
 use Rattle.asking.proofs.Calls.{piece_within}
 use Rattle.files.proofs.Counting.{counts_within}
-use Rattle.listening.proofs.hear_file.Goals as goal
+use Rattle.listening.proofs.Listener.hear_file.Goals as goal
 
 pub slice_bounds-piece-end : goal.slice_bounds-piece-end
 slice_bounds-piece-end g c = omega (arith, piece_within _ 65536 _ _ c.after.ensures c.in-GoOn.is)

@@ -1,8 +1,8 @@
--- `listening::hear`: a turn hears on from the place where it stands, and moves that place.
+-- `listening::Listener::hear`: a turn hears on from the place where it stands, and moves that place.
 use Rattle.std.proofs.Common.{◌≡◌, sym, ◌∙◌, arith}
 use Rattle.recording.specs.Ear.{hear_of}
 use Rattle.recording.proofs.Advances.{hear_first, hear_next, hear_last}
-use Rattle.listening.proofs.hear.Goals as goal
+use Rattle.listening.proofs.Listener.hear.Goals as goal
 
 pub loop-byte-init : goal.loop-byte-init
 loop-byte-init g c = (omega arith, hear_first c.args.start.ear c.args.piece.now)

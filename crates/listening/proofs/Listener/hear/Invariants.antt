@@ -1,9 +1,9 @@
--- `listening::hear`: before each turn the rest of the bits is still to be heard, and each turn moves on.
+-- `listening::Listener::hear`: before each turn the rest of the bits is still to be heard, and each turn moves on.
 use Rattle.std.proofs.Common.{◌≡◌, ◌*◌, ◌-◌, ◌<◌, length}
 use Rattle.receiver.specs.Feeding.{byte_bits}
 use Rattle.recording.specs.Ear.{hear_of}
 use Rattle.recording.proofs.Advances.{at, rest}
-use Rattle.listening.proofs.hear.Given as goal
+use Rattle.listening.proofs.Listener.hear.Given as goal
 
 abbrev pub invariant-loop-byte : goal.invariant-loop-byte
 invariant-loop-byte g l =
