@@ -4,15 +4,12 @@ use mathlib.Core.List.{[], ◌∷◌}
 use mathlib.Core.Bool.{Bool, true, false, cond}
 use native.Mathlib.Omega.{arith}
 use lib.ListN.{length}
-use Rattle.letters.specs.Letters.{decimal_of, letters_of, hex_four, hex_two, is_shown, character_text}
+use Rattle.letters.specs.Letters.{decimal_of, hex_four, hex_two, is_shown, character_text}
 use Rattle.letters.proofs.Digits.{count_most}
 
--- a number below 2 to the 64 in decimal digits, and as the letters of a word
+-- a number below 2 to the 64 in decimal digits
 pub decimal_most : (number : ℕ) → number < 2 ^ 64 → length (decimal_of number) ≤ 20
 decimal_most number h = count_most 10 48 (omega arith) 19 number (omega arith)
-
-pub letters_most : (number : ℕ) → number < 2 ^ 64 → length (letters_of number) ≤ 8
-letters_most number h = count_most 256 0 (omega arith) 7 number (omega arith)
 
 pub hex_most : (word : ℕ) → length (hex_four word) ≤ 4
 unfolding hex_four

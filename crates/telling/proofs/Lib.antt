@@ -1,1 +1,2 @@
--- The floor `telling` has no laws beside its promises: those of its texts are `letters`'.
+-- The laws of the floor `telling`.
+pub mod Joined

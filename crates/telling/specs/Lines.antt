@@ -15,10 +15,8 @@ use Rattle.clock.specs.declared.Held.{Held}
 use Rattle.clock.specs.declared.Held.TheVariants.{At, Nothing}
 use Rattle.clock.specs.declared.Local.{Local}
 use Rattle.clock.specs.declared.Local.TheVariants.{Date, OutOfRange}
-use Rattle.letters.specs.Letters.{word}
-use Rattle.telling.specs.Pieces.{line_text}
-use Rattle.telling.specs.declared.pieces.Piece.{Piece}
-use Rattle.telling.specs.declared.pieces.Piece.TheVariants.{Word, Number, Two, Hex, Character, Silent}
+use Rattle.letters.specs.Letters.{codes}
+use Rattle.telling.specs.Pieces.{Piece, Word, Number, Two, Hex, Character, Silent, line_text}
 
 -- ---- signs
 
@@ -32,13 +30,13 @@ abbrev pub colon : Piece
 colon = Character 58
 
 abbrev pub quote : Piece
-quote = Word (word "\"")
+quote = Word (codes "\"")
 
 abbrev pub end : Piece
-end = Word (word "\n")
+end = Word (codes "\n")
 
 abbrev pub none : Piece
-none = Word (word "none")
+none = Word (codes "none")
 
 -- a yes or no as 1 or 0
 abbrev pub bit_piece : Bool → Piece
@@ -48,27 +46,27 @@ bit_piece flag = Number (cond flag 1 0)
 
 -- lock was taken, or lost, with this bit; the first bit of a recording is bit 0
 abbrev pub lock_line : ℕ → List Piece
-lock_line bit = Word (word "lock ") ∷ Number bit ∷ end ∷ []
+lock_line bit = Word (codes "lock ") ∷ Number bit ∷ end ∷ []
 
 abbrev pub lost_line : ℕ → List Piece
-lost_line bit = Word (word "lost ") ∷ Number bit ∷ end ∷ []
+lost_line bit = Word (codes "lost ") ∷ Number bit ∷ end ∷ []
 
 -- ---- a group: its number, type and words
 
 -- a word in hexadecimal, or ---- where its block was bad
 abbrev pub word_piece : Group → ℕ → Piece
-word_piece group i = cond (good_of group i) (Hex (word_of group i)) (Word (word "----"))
+word_piece group i = cond (good_of group i) (Hex (word_of group i)) (Word (codes "----"))
 
 -- the type, or -- where word 2 was bad; then A for version 0, B for version 1
 abbrev pub type_piece : Group → Piece
-type_piece group = cond (good_of group 1) (Number (type_of (word_of group 1))) (Word (word "--"))
+type_piece group = cond (good_of group 1) (Number (type_of (word_of group 1))) (Word (codes "--"))
 
 abbrev pub version_piece : Group → Piece
 version_piece group = cond (good_of group 1) (Character (65 + version_of (word_of group 1))) Silent
 
 abbrev pub head_line : ℕ → Group → List Piece
 head_line number group =
-    Word (word "group ") ∷ Number number ∷ space ∷ type_piece group ∷ version_piece group
+    Word (codes "group ") ∷ Number number ∷ space ∷ type_piece group ∷ version_piece group
     ∷ space ∷ word_piece group 0 ∷ space ∷ word_piece group 1 ∷ space ∷ word_piece group 2 ∷ space ∷ word_piece group 3 ∷ []
 
 -- ---- what it carries
@@ -80,13 +78,13 @@ pair_line pair = Character (first_of pair) ∷ Character (second_of pair) ∷ []
 -- a name pair at its address
 abbrev pub name_line : ℕ → ℕ → List Piece
 name_line address pair =
-    Word (word " name ") ∷ Number address ∷ Word (word " \"") ∷ Character (first_of pair) ∷ Character (second_of pair)
+    Word (codes " name ") ∷ Number address ∷ Word (codes " \"") ∷ Character (first_of pair) ∷ Character (second_of pair)
     ∷ quote ∷ []
 
 -- an AF code: its frequency in kHz, or the code itself where it has none
 abbrev pub af_label : FrequencyAnswer → Piece
 af_label (Khz khz) = space
-af_label NoFrequency = Word (word " code ")
+af_label NoFrequency = Word (codes " code ")
 
 abbrev pub af_piece : FrequencyAnswer → ℕ → Piece
 af_piece (Khz khz) code = Number khz
@@ -94,31 +92,31 @@ af_piece NoFrequency code = Number code
 
 abbrev pub codes_line : ℕ → ℕ → List Piece
 codes_line one two =
-    Word (word " AF") ∷ af_label (frequency_of one) ∷ af_piece (frequency_of one) one
+    Word (codes " AF") ∷ af_label (frequency_of one) ∷ af_piece (frequency_of one) one
     ∷ af_label (frequency_of two) ∷ af_piece (frequency_of two) two ∷ []
 
 -- the address and the flag of a text part, and its first two characters
 abbrev pub part_line : ℕ → Bool → ℕ → List Piece
 part_line address flag pair =
-    Word (word " text ") ∷ Number address ∷ Word (word " flag ") ∷ bit_piece flag ∷ Word (word " \"") ∷ pair_line pair
+    Word (codes " text ") ∷ Number address ∷ Word (codes " flag ") ∷ bit_piece flag ∷ Word (codes " \"") ∷ pair_line pair
 
 -- the sign of an offset
 abbrev pub sign_piece : Bool → Piece
-sign_piece negative = Word (cond negative (word " -") (word " +"))
+sign_piece negative = Word (cond negative (codes " -") (codes " +"))
 
 -- a clock behind its label: UTC day, hour and minute, and the local offset in half hours with its sign
-abbrev pub clock_line : ℕ → Held → List Piece
+abbrev pub clock_line : Piece → Held → List Piece
 clock_line label (At clock) =
-    Word label ∷ Number clock.day.0 ∷ space ∷ Two clock.hour ∷ colon ∷ Two clock.minute
+    label ∷ Number clock.day.0 ∷ space ∷ Two clock.hour ∷ colon ∷ Two clock.minute
     ∷ sign_piece clock.negative ∷ Number clock.half ∷ []
-clock_line label Nothing = Word label ∷ none ∷ []
+clock_line label Nothing = label ∷ none ∷ []
 
 -- a local date and time behind its label, and the end of the line
-abbrev pub local_line : ℕ → Local → List Piece
+abbrev pub local_line : Piece → Local → List Piece
 local_line label (Date at) =
-    Word label ∷ Number at.year ∷ hyphen ∷ Two at.month ∷ hyphen ∷ Two at.day ∷ space
+    label ∷ Number at.year ∷ hyphen ∷ Two at.month ∷ hyphen ∷ Two at.day ∷ space
     ∷ Two at.hour ∷ colon ∷ Two at.minute ∷ end ∷ []
-local_line label OutOfRange = Word label ∷ none ∷ end ∷ []
+local_line label OutOfRange = label ∷ none ∷ end ∷ []
 
 -- what a good group carries; `held` is the clock that its words make, if they do
 abbrev pub content_line : Content → Held → List Piece
@@ -126,7 +124,7 @@ content_line (Name0A switches address af pair) held = name_line address pair ++ 
 content_line (Name0B switches address pair) held = name_line address pair
 content_line (Text2A flag address first second) held = part_line address flag first ++ pair_line second ++ quote ∷ []
 content_line (Text2B flag address pair) held = part_line address flag pair ++ quote ∷ []
-content_line Clock4A held = clock_line (word " clock ") held
+content_line Clock4A held = clock_line (Word (codes " clock ")) held
 content_line Other held = []
 
 -- how its line ends: a clock with its local date and time
@@ -135,7 +133,7 @@ closing_line (Name0A switches address af pair) held = end ∷ []
 closing_line (Name0B switches address pair) held = end ∷ []
 closing_line (Text2A flag address first second) held = end ∷ []
 closing_line (Text2B flag address pair) held = end ∷ []
-closing_line Clock4A held = local_line (word " local ") (local_date_of held)
+closing_line Clock4A held = local_line (Word (codes " local ")) (local_date_of held)
 closing_line Other held = end ∷ []
 
 -- ---- the whole line: for groups with a bad block nothing is told but number, type and words

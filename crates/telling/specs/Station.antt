@@ -10,11 +10,9 @@ use Rattle.station.specs.declared.HeldPi.TheVariants.{Pi, NoPi}
 use Rattle.station.specs.declared.HeldFlag.{HeldFlag}
 use Rattle.station.specs.declared.HeldFlag.TheVariants.{Flag, NoFlag}
 use Rattle.station.specs.declared.Record.{Record}
-use Rattle.letters.specs.Letters.{word, decimal_of, character_text, joined}
-use Rattle.telling.specs.Pieces.{line_text}
+use Rattle.letters.specs.Letters.{codes, decimal_of, character_text, joined}
+use Rattle.telling.specs.Pieces.{Piece, Word, Number, Hex, line_text}
 use Rattle.telling.specs.Lines.{none, bit_piece, clock_line, local_line}
-use Rattle.telling.specs.declared.pieces.Piece.{Piece}
-use Rattle.telling.specs.declared.pieces.Piece.TheVariants.{Word, Number, Hex}
 
 -- ---- PI, PTY, TP and the name
 
@@ -24,15 +22,15 @@ pi_piece NoPi = none
 
 abbrev pub station_line : Record → List Piece
 station_line station =
-    Word (word "PI ") ∷ pi_piece (pi_of station) ∷ Word (word "\nPTY ") ∷ Number (pty_of station)
-    ∷ Word (word "\nTP ") ∷ bit_piece (tp_of station) ∷ Word (word "\nname \"") ∷ []
+    Word (codes "PI ") ∷ pi_piece (pi_of station) ∷ Word (codes "\nPTY ") ∷ Number (pty_of station)
+    ∷ Word (codes "\nTP ") ∷ bit_piece (tp_of station) ∷ Word (codes "\nname \"") ∷ []
 
 -- a pair that was seen is marked +, one that was not -
 abbrev pub mark_text : Bool → List ℕ
 mark_text seen = cond seen 43 45 ∷ []
 
 abbrev pub seen_line : List Piece
-seen_line = Word (word "\" seen ") ∷ []
+seen_line = Word (codes "\" seen ") ∷ []
 
 -- characters between quotes, and the marks of their pairs
 abbrev pub shown_text : List ℕ → List Bool → List ℕ
@@ -44,7 +42,7 @@ name_text station = line_text (station_line station) ++ shown_text (name_charact
 -- ---- the text
 
 abbrev pub text_line : List Piece
-text_line = Word (word "\ntext \"") ∷ []
+text_line = Word (codes "\ntext \"") ∷ []
 
 unfoldable pub text_text : Record → List ℕ
 text_text station = line_text text_line ++ shown_text (text_characters_of station) (text_seen_of station)
@@ -58,8 +56,8 @@ flag_piece NoFlag = none
 -- how many frequencies are held of those expected
 abbrev pub list_line : Record → List Piece
 list_line station =
-    Word (word "\nflag ") ∷ flag_piece (text_flag_of station) ∷ Word (word "\nAF ") ∷ Number (held_of (af_list_of station))
-    ∷ Word (word " of ") ∷ Number (expected_of (af_list_of station)) ∷ []
+    Word (codes "\nflag ") ∷ flag_piece (text_flag_of station) ∷ Word (codes "\nAF ") ∷ Number (held_of (af_list_of station))
+    ∷ Word (codes " of ") ∷ Number (expected_of (af_list_of station)) ∷ []
 
 -- and the first n of them, in kHz
 unfoldable pub frequencies_to : AfList → ℕ → List ℕ
@@ -69,8 +67,8 @@ frequencies_to list (suc n) = frequencies_to list n ++ 32 ∷ decimal_of (at_of 
 unfoldable pub rest_text : Record → List ℕ
 rest_text station =
     line_text (list_line station) ++ frequencies_to (af_list_of station) (held_of (af_list_of station))
-    ++ line_text (clock_line (word "\nclock ") (held_clock_of station))
-    ++ line_text (local_line (word "\nlocal ") (local_date_of (held_clock_of station)))
+    ++ line_text (clock_line (Word (codes "\nclock ")) (held_clock_of station))
+    ++ line_text (local_line (Word (codes "\nlocal ")) (local_date_of (held_clock_of station)))
 
 -- ---- all of it
 

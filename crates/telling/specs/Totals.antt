@@ -1,12 +1,11 @@
 -- The lines of the counts of a recording.
 use Rattle.std.specs.Prelude.{List, [], ◌∷◌}
 use Rattle.counts.specs.declared.Counts.{Counts}
-use Rattle.letters.specs.Letters.{word}
+use Rattle.letters.specs.Letters.{codes}
+use Rattle.telling.specs.Pieces.{Piece, Word, Number}
 use Rattle.telling.specs.Lines.{end}
-use Rattle.telling.specs.declared.pieces.Piece.{Piece}
-use Rattle.telling.specs.declared.pieces.Piece.TheVariants.{Word, Number}
 
 abbrev pub counts_line : Counts → List Piece
 counts_line c =
-    Word (word "groups ") ∷ Number c.groups ∷ Word (word "\nbad ") ∷ Word (word "groups ") ∷ Number c.bad
-    ∷ Word (word "\nlocks ") ∷ Number c.locks ∷ Word (word "\nlosses ") ∷ Number c.losses ∷ end ∷ []
+    Word (codes "groups ") ∷ Number c.groups ∷ Word (codes "\nbad groups ") ∷ Number c.bad
+    ∷ Word (codes "\nlocks ") ∷ Number c.locks ∷ Word (codes "\nlosses ") ∷ Number c.losses ∷ end ∷ []

@@ -2,13 +2,13 @@
 ghost use Rattle.std.specs.Prelude.{◌≡◌, [], ◌∷◌, ◌++◌, ◌+◌, ◌*◌, ◌≤◌, length};
 ghost use Rattle.frequencies.specs.AfList.{held_of};
 ghost use Rattle.letters.specs.Letters.{Wrote, joined, decimal_of, character_text};
-ghost use Rattle.telling.specs.Pieces.{line_text};
+ghost use Rattle.telling.specs.Pieces.{piece_of, line_of, line_text};
 ghost use Rattle.telling.specs.Station.{pi_piece, station_line, mark_text, shown_text, flag_piece};
 ghost use Rattle.telling.specs.Station.{list_line, frequencies_to, name_text, text_text, rest_text, station_text};
 
-use crate::lines::Line;
-use crate::pieces::Piece;
-use crate::{lines, pieces, words};
+use crate::lines::NONE;
+use crate::pieces::{Piece, put_line};
+use crate::{lines, pieces};
 use frequencies::AfList;
 use station::{HeldFlag, HeldPi, Record, read};
 
@@ -19,52 +19,52 @@ const UNSEEN: u8 = b'-';
 
 // The PI, or that there is none.
 fn pi_piece(held: HeldPi) -> Piece
-    ensures { result ≡ pi_piece held }
+    ensures { piece_of result ≡ pi_piece held }
 {
     match held {
         HeldPi::Pi(pi) => Piece::Hex(pi),
-        HeldPi::NoPi => Piece::Word(words::NONE),
+        HeldPi::NoPi => NONE,
     }
 }
 
 // The text flag, or that there is none.
 fn flag_piece(held: HeldFlag) -> Piece
-    ensures { result ≡ flag_piece held }
+    ensures { piece_of result ≡ flag_piece held }
 {
     match held {
         HeldFlag::Flag(flag) => lines::bit(flag),
-        HeldFlag::NoFlag => Piece::Word(words::NONE),
+        HeldFlag::NoFlag => NONE,
     }
 }
 
 // PI, PTY, TP, and the start of the name.
-fn station_line(station: Record) -> Line
-    ensures { line_text result ≡ line_text (station_line station) }
+fn station_line(station: Record) -> [Piece; 7]
+    ensures { line_of result ≡ station_line station }
 {
-    let mut line = [Piece::Silent; 16];
-    line[0] = Piece::Word(words::HELD_PI);
-    line[1] = pi_piece(read::pi(station));
-    line[2] = Piece::Word(words::HELD_PTY);
-    line[3] = Piece::Number(u64::from(read::pty(station)));
-    line[4] = Piece::Word(words::HELD_TP);
-    line[5] = lines::bit(read::tp(station));
-    line[6] = Piece::Word(words::HELD_NAME);
-    line
+    [
+        Piece::Word(b"PI "),
+        pi_piece(read::pi(station)),
+        Piece::Word(b"\nPTY "),
+        Piece::Number(u64::from(read::pty(station))),
+        Piece::Word(b"\nTP "),
+        lines::bit(read::tp(station)),
+        Piece::Word(b"\nname \""),
+    ]
 }
 
 // The text flag, and how many frequencies are held of those expected.
-fn list_line(station: Record) -> Line
-    ensures { line_text result ≡ line_text (list_line station) }
+fn list_line(station: Record) -> [Piece; 6]
+    ensures { line_of result ≡ list_line station }
 {
     let list = read::af_list(station);
-    let mut line = [Piece::Silent; 16];
-    line[0] = Piece::Word(words::HELD_FLAG);
-    line[1] = flag_piece(read::text_flag(station));
-    line[2] = Piece::Word(words::HELD_AF);
-    line[3] = Piece::Number(u64::from(frequencies::held(list)));
-    line[4] = Piece::Word(words::OF);
-    line[5] = Piece::Number(u64::from(frequencies::expected(list)));
-    line
+    [
+        Piece::Word(b"\nflag "),
+        flag_piece(read::text_flag(station)),
+        Piece::Word(b"\nAF "),
+        Piece::Number(u64::from(frequencies::held(list))),
+        Piece::Word(b" of "),
+        Piece::Number(u64::from(frequencies::expected(list))),
+    ]
 }
 
 // Characters, one behind the other.
@@ -101,16 +101,16 @@ fn put_marks(seen: &[bool], out: &mut [u8], at: usize) -> usize
 }
 
 // A line of pieces, characters behind it, and the marks of their pairs.
-fn put_shown(line: Line, characters: &[u8], seen: &[bool], out: &mut [u8], at: usize) -> usize
+fn put_shown(line: &[Piece], characters: &[u8], seen: &[bool], out: &mut [u8], at: usize) -> usize
     requires { (at + 4 * length characters.now + length seen.now + 640 ≤ length out.old)
-        × (length line ≡ 16) }
+        × (length line.now ≤ 16) }
     ensures { Wrote out.old at
-        (line_text line ++ shown_text characters.now seen.now) out.new result
+        (line_text (line_of line.now) ++ shown_text characters.now seen.now) out.new result
         × (result ≤ at + 4 * length characters.now + length seen.now + 640) }
 {
-    let one = pieces::put_line(&line, out, at);
+    let one = put_line(line, out, at);
     let two = put_characters(characters, out, one);
-    let three = pieces::put_line(&lines::one_word(words::SEEN), out, two);
+    let three = put_line(&[Piece::Word(b"\" seen ")], out, two);
     put_marks(seen, out, three)
 }
 
@@ -122,7 +122,7 @@ fn put_name(station: Record, out: &mut [u8], at: usize) -> usize
     let line = station_line(station);
     let characters = read::name_characters(station);
     let seen = read::name_seen(station);
-    put_shown(line, &characters, &seen, out, at)
+    put_shown(&line, &characters, &seen, out, at)
 }
 
 // The text.
@@ -130,10 +130,10 @@ fn put_text(station: Record, out: &mut [u8], at: usize) -> usize
     requires { at + 928 ≤ length out.old }
     ensures { Wrote out.old at (text_text station) out.new result × (result ≤ at + 928) }
 {
-    let line = lines::one_word(words::HELD_TEXT);
+    let line = [Piece::Word(b"\ntext \"")];
     let characters = read::text_characters(station);
     let seen = read::text_seen(station);
-    put_shown(line, &characters, &seen, out, at)
+    put_shown(&line, &characters, &seen, out, at)
 }
 
 // A frequency behind a space.
@@ -142,7 +142,7 @@ fn put_frequency(khz: u32, out: &mut [u8], at: usize) -> usize
     ensures { Wrote out.old at (32 ∷ decimal_of khz) out.new result × (result ≤ at + 21) }
 {
     let next = letters::put_byte(b' ', out, at);
-    letters::put_number(u64::from(khz), out, next)
+    pieces::put_number(u64::from(khz), out, next)
 }
 
 // The frequencies held.
@@ -163,12 +163,12 @@ fn put_rest(station: Record, out: &mut [u8], at: usize) -> usize
     requires { at + 6315 ≤ length out.old }
     ensures { Wrote out.old at (rest_text station) out.new result × (result ≤ at + 6315) }
 {
-    let one = pieces::put_line(&list_line(station), out, at);
+    let one = put_line(&list_line(station), out, at);
     let two = put_frequencies(read::af_list(station), out, one);
     let held = read::held_clock(station);
-    let three = pieces::put_line(&lines::clock_line(words::HELD_CLOCK, held), out, two);
+    let three = lines::put_clock(Piece::Word(b"\nclock "), held, out, two);
     let local = clock::local_date(held);
-    pieces::put_line(&lines::local_line(words::HELD_LOCAL, local), out, three)
+    lines::put_local(Piece::Word(b"\nlocal "), local, out, three)
 }
 
 // All that is held of a station, at the front of a buffer that has room for it.

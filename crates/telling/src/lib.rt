@@ -2,8 +2,8 @@
 // Refused, with number 8: a buffer that is too short; it is then as it was.
 #![tactic(auto)]
 
-ghost use Rattle.std.specs.Prelude.{◌≡◌, length};
-ghost use Rattle.telling.specs.Pieces.{line_text};
+ghost use Rattle.std.specs.Prelude.{◌≤◌, length};
+ghost use Rattle.telling.specs.Pieces.{line_of, line_text};
 ghost use Rattle.telling.specs.Lines.{lock_line, lost_line, group_text};
 ghost use Rattle.telling.specs.Station.{station_text};
 ghost use Rattle.telling.specs.Totals.{counts_line};
@@ -13,13 +13,12 @@ ghost use Rattle.telling.specs.Rooms.{line_room, group_room, station_room};
 mod held;
 mod lines;
 mod pieces;
-mod totals;
-mod words;
 
 use counts::Counts;
 use groups::Group;
 use letters::TooShort;
-use lines::Line;
+use lines::END;
+use pieces::Piece;
 use station::Record;
 
 // Room for any line of pieces, for a group's line, and for all that is held of a station: a buffer with so much is
@@ -31,12 +30,12 @@ pub const GROUP_ROOM: usize = 1024;
 pub const STATION_ROOM: usize = 7919;
 
 // A line of pieces at the front of a buffer, if it has room.
-fn line_told(line: Line, out: &mut [u8]) -> Result<usize, TooShort>
-    requires { length line ≡ 16 }
-    ensures { TellsWithin line_room (line_text line) out.old result out.new }
+fn line_told(line: &[Piece], out: &mut [u8]) -> Result<usize, TooShort>
+    requires { length line.now ≤ 16 }
+    ensures { TellsWithin line_room (line_text (line_of line.now)) out.old result out.new }
 {
     let mut own = [0u8; LINE_ROOM];
-    let length = pieces::put_line(&line, &mut own, 0);
+    let length = pieces::put_line(line, &mut own, 0);
     letters::tell(&own[..length], out)
 }
 
@@ -44,14 +43,14 @@ fn line_told(line: Line, out: &mut [u8]) -> Result<usize, TooShort>
 pub fn lock(bit: u64, out: &mut [u8]) -> Result<usize, TooShort>
     ensures { TellsWithin line_room (line_text (lock_line bit)) out.old result out.new }
 {
-    line_told(lines::with_bit(words::LOCK, bit), out)
+    line_told(&[Piece::Word(b"lock "), Piece::Number(bit), END], out)
 }
 
 // That lock was lost with a bit.
 pub fn lost(bit: u64, out: &mut [u8]) -> Result<usize, TooShort>
     ensures { TellsWithin line_room (line_text (lost_line bit)) out.old result out.new }
 {
-    line_told(lines::with_bit(words::LOST, bit), out)
+    line_told(&[Piece::Word(b"lost "), Piece::Number(bit), END], out)
 }
 
 // The line of a group, with its number in the recording.
@@ -76,5 +75,16 @@ pub fn record_lines(station: Record, out: &mut [u8]) -> Result<usize, TooShort>
 pub fn count_lines(counts: Counts, out: &mut [u8]) -> Result<usize, TooShort>
     ensures { TellsWithin line_room (line_text (counts_line counts)) out.old result out.new }
 {
-    line_told(totals::lines_of(counts), out)
+    let line = [
+        Piece::Word(b"groups "),
+        Piece::Number(counts.groups),
+        Piece::Word(b"\nbad groups "),
+        Piece::Number(counts.bad),
+        Piece::Word(b"\nlocks "),
+        Piece::Number(counts.locks),
+        Piece::Word(b"\nlosses "),
+        Piece::Number(counts.losses),
+        END,
+    ];
+    line_told(&line, out)
 }

@@ -1,23 +1,19 @@
 // The lines of a recording, as pieces: what is told of a lock, of a loss and of a group.
-ghost use Rattle.std.specs.Prelude.{◌≡◌, [], ◌∷◌, ◌++◌, ◌≤◌, length, replicate};
+ghost use Rattle.std.specs.Prelude.{◌≡◌, ◌+◌, ◌≤◌, length};
 ghost use Rattle.groups.specs.Content.{first_of, second_of};
-ghost use Rattle.letters.specs.Letters.{Wrote, word};
-ghost use Rattle.telling.specs.Pieces.{line_text};
+ghost use Rattle.letters.specs.Letters.{Wrote};
+ghost use Rattle.telling.specs.Pieces.{Character, piece_of, line_of, line_text};
 ghost use Rattle.telling.specs.Lines.{bit_piece, word_piece, type_piece, version_piece, head_line};
-ghost use Rattle.telling.specs.Lines.{name_line, af_label, af_piece, codes_line, part_line, pair_line, quote};
+ghost use Rattle.telling.specs.Lines.{name_line, af_label, af_piece, codes_line, part_line};
 ghost use Rattle.telling.specs.Lines.{sign_piece, clock_line, local_line};
-ghost use Rattle.telling.specs.Lines.{content_line, closing_line, end};
-ghost use Rattle.telling.specs.Lines.{clock_of, carried_by, closing_by, group_text};
+ghost use Rattle.telling.specs.Lines.{content_line, closing_line};
+ghost use Rattle.telling.specs.Lines.{clock_of, group_text};
 
-use crate::pieces::Piece;
-use crate::{pieces, words};
+use crate::pieces::{Piece, put_line};
 use clock::{Held, Local};
 use frequencies::FrequencyAnswer;
 use groups::Group;
 use groups::fields::Content;
-
-// The pieces of a line.
-pub(crate) type Line = [Piece; 16];
 
 // The signs between pieces.
 pub(crate) const SPACE: Piece = Piece::Character(b' ');
@@ -26,79 +22,60 @@ const HYPHEN: Piece = Piece::Character(b'-');
 
 const COLON: Piece = Piece::Character(b':');
 
-const END: Piece = Piece::Word(words::END);
+const QUOTE_OPENS: Piece = Piece::Word(b" \"");
 
-const NONE: Piece = Piece::Word(words::NONE);
+const QUOTE_CLOSES: Piece = Piece::Word(b"\"");
 
-const QUOTE_OPENS: Piece = Piece::Word(words::QUOTE_OPENS);
+pub(crate) const END: Piece = Piece::Word(b"\n");
 
-const QUOTE_CLOSES: Piece = Piece::Word(words::QUOTE_CLOSES);
-
-// The letter of version 0.
-const LETTER_A: u8 = b'A';
+// What is not held.
+pub(crate) const NONE: Piece = Piece::Word(b"none");
 
 // A yes or no as 1 or 0.
 pub(crate) fn bit(flag: bool) -> Piece
-    ensures { result ≡ bit_piece flag }
+    ensures { piece_of result ≡ bit_piece flag }
 {
     Piece::Number(u64::from(flag))
 }
 
-// A label and the number of a bit: lock was taken with it, or lost.
-pub(crate) fn with_bit(label: u64, bit: u64) -> Line
-    ensures { line_text result ≡ line_text (Piece.Word label ∷ Piece.Number bit ∷ end ∷ []) }
-{
-    let mut line = [Piece::Silent; 16];
-    line[0] = Piece::Word(label);
-    line[1] = Piece::Number(bit);
-    line[2] = END;
-    line
-}
-
-// One word alone.
-pub(crate) fn one_word(letters: u64) -> Line
-    ensures { line_text result ≡ line_text (Piece.Word letters ∷ []) }
-{
-    let mut line = [Piece::Silent; 16];
-    line[0] = Piece::Word(letters);
-    line
-}
-
 // A word of a group, or the mark of a bad place.
 fn word_piece(group: Group, place: usize) -> Piece
-    ensures { result ≡ word_piece group place }
+    ensures { piece_of result ≡ word_piece group place }
 {
     if groups::good(group, place) {
-        return Piece::Hex(groups::word(group, place));
+        Piece::Hex(groups::word(group, place))
+    } else {
+        Piece::Word(b"----")
     }
-    Piece::Word(words::BAD_WORD)
 }
 
-// The type of a group, and its version.
+// The type of a group, and its version: A or B.
 fn type_piece(group: Group) -> Piece
-    ensures { result ≡ type_piece group }
+    ensures { piece_of result ≡ type_piece group }
 {
     if groups::good(group, 1) {
-        return Piece::Number(u64::from(groups::word(group, 1) / 4096));
+        Piece::Number(u64::from(groups::word(group, 1) / 4096))
+    } else {
+        Piece::Word(b"--")
     }
-    Piece::Word(words::NO_TYPE)
 }
 
 fn version_piece(group: Group) -> Piece
-    ensures { result ≡ version_piece group }
+    ensures { piece_of result ≡ version_piece group }
 {
     if groups::good(group, 1) {
-        return Piece::Character(LETTER_A + ((groups::word(group, 1) / 2048 % 2) as u8));
+        Piece::Character(b'A' + (groups::word(group, 1) / 2048 % 2) as u8)
+    } else {
+        Piece::Silent
     }
-    Piece::Silent
 }
 
 // A group's number, type and words.
-fn head(number: u64, group: Group) -> Line
-    ensures { line_text result ≡ line_text (head_line number group) }
+fn head(number: u64, group: Group) -> [Piece; 13]
+    ensures { line_of result ≡ head_line number group }
 {
     [
-        Piece::Word(words::GROUP),
+        Piece::Word(b"group "),
         Piece::Number(number),
         SPACE,
         type_piece(group),
@@ -111,250 +88,190 @@ fn head(number: u64, group: Group) -> Line
         word_piece(group, 2),
         SPACE,
         word_piece(group, 3),
-        Piece::Silent,
-        Piece::Silent,
-        Piece::Silent,
     ]
 }
 
 // A character of a word, the first or the second.
 fn first(word: u16) -> Piece
-    ensures { result ≡ Piece.Character (first_of word) }
+    ensures { piece_of result ≡ Character (first_of word) }
 {
     Piece::Character(groups::fields::first(word))
 }
 
 fn second(word: u16) -> Piece
-    ensures { result ≡ Piece.Character (second_of word) }
+    ensures { piece_of result ≡ Character (second_of word) }
 {
     Piece::Character(groups::fields::second(word))
 }
 
-// The label of an AF code, and its frequency or itself.
-fn af_label(answer: FrequencyAnswer) -> Piece
-    ensures { result ≡ af_label answer }
-{
-    match answer {
-        FrequencyAnswer::Khz(_) => SPACE,
-        FrequencyAnswer::NoFrequency => Piece::Word(words::CODE),
-    }
-}
-
-fn af_piece(answer: FrequencyAnswer, code: u8) -> Piece
-    ensures { result ≡ af_piece answer code }
-{
-    match answer {
-        FrequencyAnswer::Khz(khz) => Piece::Number(khz as u64),
-        FrequencyAnswer::NoFrequency => Piece::Number(code as u64),
-    }
-}
-
 // A name pair at its address.
-fn name(address: u8, pair: u16) -> Line
-    ensures { result ≡ name_line address pair ++ replicate 10 Piece.Silent }
+fn name(address: u8, pair: u16) -> [Piece; 6]
+    ensures { line_of result ≡ name_line address pair }
 {
     [
-        Piece::Word(words::NAME),
+        Piece::Word(b" name "),
         Piece::Number(u64::from(address)),
         QUOTE_OPENS,
         first(pair),
         second(pair),
         QUOTE_CLOSES,
-        Piece::Silent,
-        Piece::Silent,
-        Piece::Silent,
-        Piece::Silent,
-        Piece::Silent,
-        Piece::Silent,
-        Piece::Silent,
-        Piece::Silent,
-        Piece::Silent,
-        Piece::Silent,
     ]
 }
 
-// The same with two AF codes.
-fn name_with_af(address: u8, pair: u16, one: u8, two: u8) -> Line
-    ensures { line_text result ≡ line_text (name_line address pair ++ codes_line one two) }
+// The label of an AF code, and its frequency or itself.
+fn af_label(answer: FrequencyAnswer) -> Piece
+    ensures { piece_of result ≡ af_label answer }
+{
+    match answer {
+        FrequencyAnswer::Khz(_) => SPACE,
+        FrequencyAnswer::NoFrequency => Piece::Word(b" code "),
+    }
+}
+
+fn af_piece(answer: FrequencyAnswer, code: u8) -> Piece
+    ensures { piece_of result ≡ af_piece answer code }
+{
+    match answer {
+        FrequencyAnswer::Khz(khz) => Piece::Number(u64::from(khz)),
+        FrequencyAnswer::NoFrequency => Piece::Number(u64::from(code)),
+    }
+}
+
+// Two AF codes.
+fn codes(one: u8, two: u8) -> [Piece; 5]
+    ensures { line_of result ≡ codes_line one two }
 {
     let answer1 = frequencies::frequency(one);
     let answer2 = frequencies::frequency(two);
-    let mut line = name(address, pair);
-    line[6] = Piece::Word(words::AF);
-    line[7] = af_label(answer1);
-    line[8] = af_piece(answer1, one);
-    line[9] = af_label(answer2);
-    line[10] = af_piece(answer2, two);
-    line
+    [
+        Piece::Word(b" AF"),
+        af_label(answer1),
+        af_piece(answer1, one),
+        af_label(answer2),
+        af_piece(answer2, two),
+    ]
 }
 
 // The address and the flag of a text part, and its first two characters.
-fn text(address: u8, flag: bool, pair: u16) -> Line
-    ensures { result ≡ part_line address flag pair ++ replicate 9 Piece.Silent }
+fn part(address: u8, flag: bool, pair: u16) -> [Piece; 7]
+    ensures { line_of result ≡ part_line address flag pair }
 {
     [
-        Piece::Word(words::TEXT),
+        Piece::Word(b" text "),
         Piece::Number(u64::from(address)),
-        Piece::Word(words::FLAG),
+        Piece::Word(b" flag "),
         bit(flag),
         QUOTE_OPENS,
         first(pair),
         second(pair),
-        Piece::Silent,
-        Piece::Silent,
-        Piece::Silent,
-        Piece::Silent,
-        Piece::Silent,
-        Piece::Silent,
-        Piece::Silent,
-        Piece::Silent,
-        Piece::Silent,
     ]
-}
-
-// A text part of two characters, and of four.
-fn text_of_two(address: u8, flag: bool, pair: u16) -> Line
-    ensures { line_text result ≡ line_text (part_line address flag pair ++ quote ∷ []) }
-{
-    let mut line = text(address, flag, pair);
-    line[7] = QUOTE_CLOSES;
-    line
-}
-
-fn text_of_four(address: u8, flag: bool, pair: u16, next: u16) -> Line
-    ensures { line_text result ≡ line_text (part_line address flag pair ++ pair_line next ++ quote ∷ []) }
-{
-    let mut line = text(address, flag, pair);
-    line[7] = first(next);
-    line[8] = second(next);
-    line[9] = QUOTE_CLOSES;
-    line
 }
 
 // The sign of a clock's offset.
 fn sign(negative: bool) -> Piece
-    ensures { result ≡ sign_piece negative }
+    ensures { piece_of result ≡ sign_piece negative }
 {
-    if negative {
-        return Piece::Word(words::MINUS);
-    }
-    Piece::Word(words::PLUS)
+    Piece::Word(if negative { b" -" } else { b" +" })
 }
 
 // A clock behind its label, or that there is none.
-pub(crate) fn clock_line(label: u64, held: Held) -> Line
-    ensures { line_text result ≡ line_text (clock_line label held) }
+pub(crate) fn put_clock(label: Piece, held: Held, out: &mut [u8], at: usize) -> usize
+    requires { at + 160 ≤ length out.old }
+    ensures { Wrote out.old at (line_text (clock_line (piece_of label) held)) out.new result
+        × (result ≤ at + 160) }
 {
-    let mut line = [Piece::Silent; 16];
-    line[0] = Piece::Word(label);
-    line[1] = NONE;
     match held {
         Held::At(clock) => {
-            let day = clock.day;
-            line[1] = Piece::Number(day.0 as u64);
-            line[2] = SPACE;
-            line[3] = Piece::Two(clock.hour);
-            line[4] = COLON;
-            line[5] = Piece::Two(clock.minute);
-            line[6] = sign(clock.negative);
-            line[7] = Piece::Number(clock.half as u64);
-            line
+            let line = [
+                label,
+                Piece::Number(u64::from(clock.day.0)),
+                SPACE,
+                Piece::Two(clock.hour),
+                COLON,
+                Piece::Two(clock.minute),
+                sign(clock.negative),
+                Piece::Number(u64::from(clock.half)),
+            ];
+            put_line(&line, out, at)
         }
-        Held::Nothing => line,
+        Held::Nothing => put_line(&[label, NONE], out, at),
     }
 }
 
 // A local date and time behind its label, or that there is none; the line ends with it.
-pub(crate) fn local_line(label: u64, local: Local) -> Line
-    ensures { line_text result ≡ line_text (local_line label local) }
+pub(crate) fn put_local(label: Piece, local: Local, out: &mut [u8], at: usize) -> usize
+    requires { at + 220 ≤ length out.old }
+    ensures { Wrote out.old at (line_text (local_line (piece_of label) local)) out.new result
+        × (result ≤ at + 220) }
 {
-    let mut line = [Piece::Silent; 16];
-    line[0] = Piece::Word(label);
-    line[1] = NONE;
-    line[15] = END;
     match local {
-        Local::Date(at) => {
-            line[1] = Piece::Number(at.year as u64);
-            line[2] = HYPHEN;
-            line[3] = Piece::Two(at.month);
-            line[4] = HYPHEN;
-            line[5] = Piece::Two(at.day);
-            line[6] = SPACE;
-            line[7] = Piece::Two(at.hour);
-            line[8] = COLON;
-            line[9] = Piece::Two(at.minute);
-            line
+        Local::Date(date) => {
+            let line = [
+                label,
+                Piece::Number(u64::from(date.year)),
+                HYPHEN,
+                Piece::Two(date.month),
+                HYPHEN,
+                Piece::Two(date.day),
+                SPACE,
+                Piece::Two(date.hour),
+                COLON,
+                Piece::Two(date.minute),
+                END,
+            ];
+            put_line(&line, out, at)
         }
-        Local::OutOfRange => line,
+        Local::OutOfRange => put_line(&[label, NONE, END], out, at),
     }
 }
 
 // What a group's content says; `held` is the clock that its words make, if they do.
-fn content_line(content: Content, held: Held) -> Line
-    ensures { line_text result ≡ line_text (content_line content held) }
+fn put_content(content: Content, held: Held, out: &mut [u8], at: usize) -> usize
+    requires { at + 220 ≤ length out.old }
+    ensures { Wrote out.old at (line_text (content_line content held)) out.new result × (result ≤ at + 220) }
 {
     match content {
         Content::Name0A {
-            switches: _,
             address,
             af,
             pair,
-        } => name_with_af(
-            address,
-            pair,
-            groups::fields::first(af),
-            groups::fields::second(af),
-        ),
-        Content::Name0B {
-            switches: _,
-            address,
-            pair,
-        } => name(address, pair),
+            ..
+        } => {
+            let next = put_line(&name(address, pair), out, at);
+            let codes = codes(groups::fields::first(af), groups::fields::second(af));
+            put_line(&codes, out, next)
+        }
+        Content::Name0B { address, pair, .. } => put_line(&name(address, pair), out, at),
         Content::Text2A {
             flag,
             address,
-            first,
-            second,
-        } => text_of_four(address, flag, first, second),
+            first: one,
+            second: two,
+        } => {
+            let next = put_line(&part(address, flag, one), out, at);
+            put_line(&[first(two), second(two), QUOTE_CLOSES], out, next)
+        }
         Content::Text2B {
             flag,
             address,
             pair,
-        } => text_of_two(address, flag, pair),
-        Content::Clock4A => clock_line(words::CLOCK, held),
-        Content::Other => [Piece::Silent; 16],
+        } => {
+            let next = put_line(&part(address, flag, pair), out, at);
+            put_line(&[QUOTE_CLOSES], out, next)
+        }
+        Content::Clock4A => put_clock(Piece::Word(b" clock "), held, out, at),
+        Content::Other => at,
     }
 }
 
 // How the line of a group's content ends.
-fn closing_line(content: Content, held: Held) -> Line
-    ensures { line_text result ≡ line_text (closing_line content held) }
+fn put_closing(content: Content, held: Held, out: &mut [u8], at: usize) -> usize
+    requires { at + 220 ≤ length out.old }
+    ensures { Wrote out.old at (line_text (closing_line content held)) out.new result × (result ≤ at + 220) }
 {
     match content {
-        Content::Name0A {
-            switches: _,
-            address: _,
-            af: _,
-            pair: _,
-        } => one_word(words::END),
-        Content::Name0B {
-            switches: _,
-            address: _,
-            pair: _,
-        } => one_word(words::END),
-        Content::Text2A {
-            flag: _,
-            address: _,
-            first: _,
-            second: _,
-        } => one_word(words::END),
-        Content::Text2B {
-            flag: _,
-            address: _,
-            pair: _,
-        } => one_word(words::END),
-        Content::Clock4A => local_line(words::LOCAL, clock::local_date(held)),
-        Content::Other => one_word(words::END),
+        Content::Clock4A => put_local(Piece::Word(b" local "), clock::local_date(held), out, at),
+        _ => put_line(&[END], out, at),
     }
 }
 
@@ -369,31 +286,17 @@ fn clock_of(group: Group) -> Held
     )
 }
 
-// What a group carries, and how its line ends.
-fn carried(group: Group) -> Line
-    ensures { line_text result ≡ line_text (carried_by group) }
-{
-    if groups::is_all_good(group) {
-        return content_line(groups::fields::content_of(group), clock_of(group));
-    }
-    [Piece::Silent; 16]
-}
-
-fn closing(group: Group) -> Line
-    ensures { line_text result ≡ line_text (closing_by group) }
-{
-    if groups::is_all_good(group) {
-        return closing_line(groups::fields::content_of(group), clock_of(group));
-    }
-    one_word(words::END)
-}
-
-// The line of a group at the front of a buffer that has room for it.
+// The line of a group at the front of a buffer that has room for it: what it carries is told where all blocks are good.
 pub(crate) fn put_group(number: u64, group: Group, out: &mut [u8]) -> usize
     requires { 1024 ≤ length out.old }
     ensures { Wrote out.old 0 (group_text number group) out.new result × (result ≤ 1024) }
 {
-    let one = pieces::put_line(&head(number, group), out, 0);
-    let two = pieces::put_line(&carried(group), out, one);
-    pieces::put_line(&closing(group), out, two)
+    let one = put_line(&head(number, group), out, 0);
+    if groups::is_all_good(group) {
+        let content = groups::fields::content_of(group);
+        let held = clock_of(group);
+        let two = put_content(content, held, out, one);
+        return put_closing(content, held, out, two);
+    }
+    put_line(&[END], out, one)
 }

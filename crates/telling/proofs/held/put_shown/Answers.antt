@@ -5,9 +5,8 @@ use Rattle.telling.proofs.held.put_shown.Goals as goal
 
 pub returns : goal.returns
 returns c =
-    let word = rw c.one_word.ensures at
+    let two = wrote_two _ c.put_line-one.result (omega arith) c.put_characters-two.ensures.0
     c.put_line-three.ensures.0 in
-    let two = wrote_two _ c.put_line-one.result (omega arith) c.put_characters-two.ensures.0 word in
     let shown = wrote_two _ c.put_line-one.result (omega arith) two c.put_marks.ensures.0 in (
       wrote_two c.args.out.now c.args.at (omega arith) c.put_line-one.ensures.0 shown,
       omega (

@@ -6,10 +6,6 @@ use Rattle.telling.proofs.held.put_text.Goals as goal
 pub returns : goal.returns
 unfolding text_text
 returns c = (
-  rw (
-    c.one_word-line.ensures,
-    c.text_characters-characters.ensures,
-    c.text_seen-seen.ensures,
-  ) at c.put_shown.ensures.0,
+  rw (c.text_characters-characters.ensures, c.text_seen-seen.ensures) at c.put_shown.ensures.0,
   omega arith,
 )

@@ -1,21 +1,24 @@
 -- `telling::pieces::put_piece` meets its promise: by what the piece is.
+use Prim.Native.Nat.{◌≤◌, min}
+use mathlib.Core.Path.{◌≡◌}
 use native.Mathlib.Omega.{arith}
+use lib.ListN.{length, take, length-take}
+use Rattle.std.proofs.lemmas.List.{take_min}
 use Rattle.letters.proofs.Buffers.{wrote_none}
 use Rattle.letters.proofs.Puts.{put_wrote}
-use Rattle.letters.proofs.Sizes.{letters_most, decimal_most, hex_most, character_most}
+use Rattle.letters.proofs.Sizes.{hex_most, character_most}
 use Rattle.telling.proofs.pieces.put_piece.Goals as goal
 
 pub returns-in-Word : goal.returns-in-Word
 returns-in-Word c =
-    let most = letters_most c.in-Word.letters (omega arith) in
-    let wrote = put_wrote (omega arith) c.put_word.ensures in
+    let least : c.min.result ≡ min 20 (length c.in-Word.word.now) = omega arith in
+    let told = rw (least, take_min 20 c.in-Word.word.now) at c.put.ensures in
+    let most : length (take 20 c.in-Word.word.now) ≤ 20 = omega (arith, length-take 20 c.in-Word.word.now) in
+    let wrote = put_wrote (omega arith) told in
     rw c.in-Word.is (wrote, omega arith)
 
 pub returns-in-Number : goal.returns-in-Number
-returns-in-Number c =
-    let most = decimal_most c.in-Number.number (omega arith) in
-    let wrote = put_wrote (omega arith) c.put_number.ensures in
-    rw c.in-Number.is (wrote, omega arith)
+returns-in-Number c = rw c.in-Number.is c.put_number.ensures
 
 pub returns-in-Two : goal.returns-in-Two
 returns-in-Two c =
@@ -35,9 +38,4 @@ returns-in-Character c =
     rw c.in-Character.is (wrote, omega arith)
 
 pub returns-in-Silent : goal.returns-in-Silent
-returns-in-Silent c =
-    rw c.in-Silent.is (
-      wrote_none c.args.out.now
-          c.args.at,
-      omega arith,
-    )
+returns-in-Silent c = rw c.in-Silent.is (wrote_none c.args.out.now c.args.at, omega arith)

@@ -1,5 +1,0 @@
--- `telling::lock` meets its promise: the word and the number, as a line.
-use Rattle.telling.proofs.lock.Goals as goal
-
-pub returns : goal.returns
-returns c = rw c.with_bit.ensures at c.line_told.ensures
