@@ -10,7 +10,9 @@ use native.Mathlib.Omega.{arith}
 use lib.Dec.{eqb, leb}
 use borrow.Author.Tests.{ne_eqb, eqb-true, le-leb, lt-leb, leb-true, leb-false}
 use Rattle.blocks.specs.Divide.{remainder}
-use Rattle.blocks.specs.Block.{kinds, offset_of, write_of, Valid, valid, word_of, limit, among, read_of, judge_of}
+use Rattle.std.specs.Prelude.{Ok, Err, None}
+use Rattle.blocks.specs.declared.Block.{Block}
+use Rattle.blocks.specs.Block.{Found, Judged, block, found, kinds, offset_of, write_of, Valid, valid, word_of, limit, among, read_of, judge_of}
 use Rattle.blocks.specs.Answers.{
   found_number,
   found_values,
@@ -23,10 +25,7 @@ use Rattle.blocks.specs.Answers.{
 }
 use Rattle.blocks.specs.declared.Kind.{Kind}
 use Rattle.blocks.specs.declared.Kind.TheVariants.{A, B, C, CPrime, D}
-use Rattle.blocks.specs.declared.Found.{Found}
-use Rattle.blocks.specs.declared.Found.TheVariants.{Block, Nothing, TooLong}
-use Rattle.blocks.specs.declared.Judged.{Judged}
-use Rattle.blocks.specs.declared.Judged.TheVariants.{Good, Bad, Refused}
+use Rattle.blocks.specs.declared.BlockError.TheVariants.{Bad, TooLong}
 use Rattle.bits.proofs.Order.{lt-or-le}
 use Rattle.blocks.proofs.Validity.{valid-eqb, valid-left, left-valid, valid_true, true-valid, valid_false}
 use Rattle.blocks.proofs.Validity.{write-valid, valid-write, write-lt, write_word}
@@ -35,8 +34,8 @@ use Rattle.blocks.proofs.Validity.{write-valid, valid-write, write-lt, write_wor
 
 -- the first of these kinds whose offset is r
 unfoldable fitting : List Kind → ℕ → ℕ → Found
-fitting [] w r = Nothing
-fitting (k ∷ ks) w r = cond (eqb r (offset_of k)) (Block w k) (fitting ks w r)
+fitting [] w r = (Ok None)
+fitting (k ∷ ks) w r = cond (eqb r (offset_of k)) (found w k) (fitting ks w r)
 
 among-fitting : (ks : List Kind) (n : ℕ) → among ks n ≡ fitting ks (word_of n) (remainder n)
 unfolding among fitting
@@ -51,16 +50,16 @@ read_short n h = rw (lt-leb limit n h) (among-fitting kinds n)
 -- ---- each answer of reading, exactly when
 
 -- over 26 bits is refused
-pub read-long : (n : ℕ) → limit ≤ n → read_of n ≡ TooLong
+pub read-long : (n : ℕ) → limit ≤ n → read_of n ≡ Err (record {})
 unfolding read_of
 read-long n h = rw (le-leb limit n h)
 
 -- a block valid as a kind reads as its word and that kind
-pub read-valid : (n : ℕ) (k : Kind) → n < limit → Valid k n → read_of n ≡ Block (word_of n) k
+pub read-valid : (n : ℕ) (k : Kind) → n < limit → Valid k n → read_of n ≡ found (word_of n) k
 unfolding fitting
 read-valid n k h v = read_short n h ∙ ap (fitting kinds (word_of n)) (valid-left k n v) ∙ own k
   where
-    own : (k : Kind) → fitting kinds (word_of n) (offset_of k) ≡ Block (word_of n) k
+    own : (k : Kind) → fitting kinds (word_of n) (offset_of k) ≡ found (word_of n) k
     own A = refl
     own B = refl
     own C = refl
@@ -68,20 +67,20 @@ read-valid n k h v = read_short n h ∙ ap (fitting kinds (word_of n)) (valid-le
     own D = refl
 
 -- what is found fits
-found_fits : (ks : List Kind) (w r v : ℕ) (k : Kind) → fitting ks w r ≡ Block v k → (r ≡ offset_of k) × (w ≡ v)
+found_fits : (ks : List Kind) (w r v : ℕ) (k : Kind) → fitting ks w r ≡ found v k → (r ≡ offset_of k) × (w ≡ v)
 unfolding fitting
 found_fits [] w r v k e = let z : ◌≡◌ {A = ℕ} 0 1 = cc in absurd (omega arith)
 found_fits (l ∷ ks) w r v k e = told (eqb r (offset_of l)) refl (found_fits ks w r v k)
   where
-    told : (t : Bool) → eqb r (offset_of l) ≡ t → (fitting ks w r ≡ Block v k → (r ≡ offset_of k) × (w ≡ v))
+    told : (t : Bool) → eqb r (offset_of l) ≡ t → (fitting ks w r ≡ found v k → (r ≡ offset_of k) × (w ≡ v))
         → (r ≡ offset_of k) × (w ≡ v)
     told true s later =
-        let f : Block w l ≡ Block v k = rw s at e in let same : l ≡ k = cc in
-        (eqb-true r (offset_of l) s ∙ ap offset_of same, cc)
+        let f : found w l ≡ found v k = rw s at e in let same : block w l ≡ block v k = cc in
+        (eqb-true r (offset_of l) s ∙ ap (λ (b : Block). offset_of b.kind) same, ap (λ (b : Block). b.word) same)
     told false s later = later (rw s at e)
 
 -- reading answers a word and kind k exactly if the number has 26 bits and is valid as k
-pub found-valid : (n w : ℕ) (k : Kind) → read_of n ≡ Block w k → (n < limit) × Valid k n × (word_of n ≡ w)
+pub found-valid : (n w : ℕ) (k : Kind) → read_of n ≡ found w k → (n < limit) × Valid k n × (word_of n ≡ w)
 found-valid n w k e = ⊎_elim short long (lt-or-le n limit)
   where
     short : n < limit → (n < limit) × Valid k n × (word_of n ≡ w)
@@ -90,30 +89,30 @@ found-valid n w k e = ⊎_elim short long (lt-or-le n limit)
         (h, left-valid k n f.0, f.1)
 
     long : limit ≤ n → (n < limit) × Valid k n × (word_of n ≡ w)
-    long h = let t : read_of n ≡ TooLong = read-long n h in let z : ◌≡◌ {A = ℕ} 0 1 = cc in absurd (omega arith)
+    long h = let t : read_of n ≡ Err (record {}) = read-long n h in let z : ◌≡◌ {A = ℕ} 0 1 = cc in absurd (omega arith)
 
 -- none exactly if it has 26 bits and no kind is valid
-none_fits : (ks : List Kind) (w r : ℕ) → ((k : Kind) → r ≡ offset_of k → ⊥) → fitting ks w r ≡ Nothing
+none_fits : (ks : List Kind) (w r : ℕ) → ((k : Kind) → r ≡ offset_of k → ⊥) → fitting ks w r ≡ Ok None
 unfolding fitting
 none_fits [] w r none = refl
 none_fits (k ∷ ks) w r none = rw (ne_eqb r (offset_of k) (none k)) (none_fits ks w r none)
 
-pub read_nothing : (n : ℕ) → n < limit → ((k : Kind) → Valid k n → ⊥) → read_of n ≡ Nothing
+pub read_nothing : (n : ℕ) → n < limit → ((k : Kind) → Valid k n → ⊥) → read_of n ≡ Ok None
 read_nothing n h none =
     read_short n h ∙ none_fits kinds (word_of n) (remainder n) (λ k e. none k (left-valid k n e))
 
-pub nothing-valid : (n : ℕ) → read_of n ≡ Nothing → (n < limit) × ((k : Kind) → Valid k n → ⊥)
+pub nothing-valid : (n : ℕ) → read_of n ≡ Ok None → (n < limit) × ((k : Kind) → Valid k n → ⊥)
 nothing-valid n e = ⊎_elim short long (lt-or-le n limit)
   where
     short : n < limit → (n < limit) × ((k : Kind) → Valid k n → ⊥)
     short h = (
       h,
-      λ k v. let t : read_of n ≡ Block (word_of n) k = read-valid n k h v in let z : ◌≡◌ {A = ℕ} 0 1 = cc in
+      λ k v. let t : read_of n ≡ found (word_of n) k = read-valid n k h v in let z : ◌≡◌ {A = ℕ} 0 1 = cc in
           omega arith,
     )
 
     long : limit ≤ n → (n < limit) × ((k : Kind) → Valid k n → ⊥)
-    long h = let t : read_of n ≡ TooLong = read-long n h in let z : ◌≡◌ {A = ℕ} 0 1 = cc in absurd (omega arith)
+    long h = let t : read_of n ≡ Err (record {}) = read-long n h in let z : ◌≡◌ {A = ℕ} 0 1 = cc in absurd (omega arith)
 
 -- ---- its number and values
 
@@ -122,7 +121,7 @@ unfolding among
 among-number [] n = refl
 among-number (k ∷ ks) n = told (valid k n) (among-number ks n)
   where
-    told : (t : Bool) → found_number (among ks n) ≡ 0 → found_number (cond t (Block (word_of n) k) (among ks n)) ≡ 0
+    told : (t : Bool) → found_number (among ks n) ≡ 0 → found_number (cond t (found (word_of n) k) (among ks n)) ≡ 0
     told true later = refl
     told false later = later
 
@@ -130,7 +129,7 @@ pub read_number : (n : ℕ) → found_number (read_of n) ≡ length_number n
 unfolding read_of
 read_number n = told (leb limit n)
   where
-    told : (t : Bool) → found_number (cond t TooLong (among kinds n)) ≡ cond t 12 0
+    told : (t : Bool) → found_number (cond t (Err (record {})) (among kinds n)) ≡ cond t 12 0
     told true = refl
     told false = among-number kinds n
 
@@ -140,7 +139,7 @@ fitting_values [] w r = refl
 fitting_values (k ∷ ks) w r = told (eqb r (offset_of k)) refl (fitting_values ks w r)
   where
     told : (t : Bool) → eqb r (offset_of k) ≡ t → found_values (fitting ks w r) ≡ cond (is_offset ks r) (w ∷ r ∷ []) []
-        → found_values (cond t (Block w k) (fitting ks w r)) ≡ cond (t || is_offset ks r) (w ∷ r ∷ []) []
+        → found_values (cond t (found w k) (fitting ks w r)) ≡ cond (t || is_offset ks r) (w ∷ r ∷ []) []
     told true s later = ap (λ (x : ℕ). w ∷ x ∷ []) (sym (eqb-true r (offset_of k) s))
     told false s later = later
 
@@ -148,7 +147,7 @@ pub read_values_lem : (n : ℕ) → found_values (read_of n) ≡ read_values n
 unfolding read_of read_values
 read_values_lem n = told (leb limit n)
   where
-    told : (t : Bool) → found_values (cond t TooLong (among kinds n))
+    told : (t : Bool) → found_values (cond t (Err (record {})) (among kinds n))
         ≡ cond t [] (cond (is_offset kinds (remainder n)) (word_of n ∷ remainder n ∷ []) [])
     told true = refl
     told false = ap found_values (among-fitting kinds n) ∙ fitting_values kinds (word_of n) (remainder n)
@@ -166,42 +165,42 @@ length_over n h = rw (le-leb limit n h)
 
 -- ---- each answer of judging, exactly when
 
-pub judge-long : (n : ℕ) (k : Kind) → limit ≤ n → judge_of n k ≡ Refused
+pub judge-long : (n : ℕ) (k : Kind) → limit ≤ n → judge_of n k ≡ Err TooLong
 unfolding judge_of
 judge-long n k h = rw (le-leb limit n h)
 
-pub judge-valid : (n : ℕ) (k : Kind) → n < limit → Valid k n → judge_of n k ≡ Good (word_of n)
+pub judge-valid : (n : ℕ) (k : Kind) → n < limit → Valid k n → judge_of n k ≡ Ok (word_of n)
 unfolding judge_of
 judge-valid n k h v = rw (lt-leb limit n h, valid_true k n v)
 
-pub judge_bad : (n : ℕ) (k : Kind) → n < limit → (Valid k n → ⊥) → judge_of n k ≡ Bad
+pub judge_bad : (n : ℕ) (k : Kind) → n < limit → (Valid k n → ⊥) → judge_of n k ≡ Err Bad
 unfolding judge_of
 judge_bad n k h v = rw (lt-leb limit n h, valid_false k n v)
 
-pub judged-valid : (n w : ℕ) (k : Kind) → judge_of n k ≡ Good w → (n < limit) × Valid k n × (word_of n ≡ w)
+pub judged-valid : (n w : ℕ) (k : Kind) → judge_of n k ≡ Ok w → (n < limit) × Valid k n × (word_of n ≡ w)
 unfolding judge_of
 judged-valid n w k e = told (leb limit n) refl (valid k n) refl
   where
     told : (t : Bool) → leb limit n ≡ t → (u : Bool) → valid k n ≡ u → (n < limit) × Valid k n × (word_of n ≡ w)
-    told true s u v = let f : Refused ≡ Good w = rw s at e in let z : ◌≡◌ {A = ℕ} 0 1 = cc in absurd (omega arith)
+    told true s u v = let f : (Err TooLong) ≡ Ok w = rw s at e in let z : ◌≡◌ {A = ℕ} 0 1 = cc in absurd (omega arith)
     told false s true v =
-        let f : Good (word_of n) ≡ Good w = rw (s, v) at e in (leb-false limit n s, true-valid k n v, cc)
-    told false s false v = let f : Bad ≡ Good w = rw (s, v) at e in let z : ◌≡◌ {A = ℕ} 0 1 = cc in absurd (omega arith)
+        let f : Ok (word_of n) ≡ Ok w = rw (s, v) at e in (leb-false limit n s, true-valid k n v, cc)
+    told false s false v = let f : (Err Bad) ≡ Ok w = rw (s, v) at e in let z : ◌≡◌ {A = ℕ} 0 1 = cc in absurd (omega arith)
 
-pub bad-valid : (n : ℕ) (k : Kind) → judge_of n k ≡ Bad → Valid k n → ⊥
+pub bad-valid : (n : ℕ) (k : Kind) → judge_of n k ≡ Err Bad → Valid k n → ⊥
 bad-valid n k e v = ⊎_elim short long (lt-or-le n limit)
   where
     short : n < limit → ⊥
-    short h = let t : judge_of n k ≡ Good (word_of n) = judge-valid n k h v in let z : ◌≡◌ {A = ℕ} 0 1 = cc in omega arith
+    short h = let t : judge_of n k ≡ Ok (word_of n) = judge-valid n k h v in let z : ◌≡◌ {A = ℕ} 0 1 = cc in omega arith
 
     long : limit ≤ n → ⊥
-    long h = let t : judge_of n k ≡ Refused = judge-long n k h in let z : ◌≡◌ {A = ℕ} 0 1 = cc in omega arith
+    long h = let t : judge_of n k ≡ Err TooLong = judge-long n k h in let z : ◌≡◌ {A = ℕ} 0 1 = cc in omega arith
 
 pub judge-number : (n : ℕ) (k : Kind) → judged_number (judge_of n k) ≡ length_number n
 unfolding judge_of
 judge-number n k = told (leb limit n) (valid k n)
   where
-    told : (t u : Bool) → judged_number (cond t Refused (cond u (Good (word_of n)) Bad)) ≡ cond t 12 0
+    told : (t u : Bool) → judged_number (cond t (Err TooLong) (cond u (Ok (word_of n)) (Err Bad))) ≡ cond t 12 0
     told true u = refl
     told false true = refl
     told false false = refl
@@ -210,7 +209,7 @@ pub judge_values_lem : (n : ℕ) (k : Kind) → judged_values (judge_of n k) ≡
 unfolding judge_of judge_values
 judge_values_lem n k = rw (valid-eqb k n) (told (leb limit n) (eqb (remainder n) (offset_of k)))
   where
-    told : (t u : Bool) → judged_values (cond t Refused (cond u (Good (word_of n)) Bad)) ≡ cond t []
+    told : (t u : Bool) → judged_values (cond t (Err TooLong) (cond u (Ok (word_of n)) (Err Bad))) ≡ cond t []
         (cond u (word_of n ∷ []) [])
     told true u = refl
     told false true = refl
@@ -218,19 +217,19 @@ judge_values_lem n k = rw (valid-eqb k n) (told (leb limit n) (eqb (remainder n)
 
 -- ---- written and read back, both ways
 
-pub read-write : (w : ℕ) (k : Kind) → w < 65536 → read_of (write_of w k) ≡ Block w k
+pub read-write : (w : ℕ) (k : Kind) → w < 65536 → read_of (write_of w k) ≡ found w k
 read-write w k h =
-    read-valid (write_of w k) k (write-lt w k h) (write-valid w k) ∙ ap (λ (v : ℕ). Block v k) (write_word w k)
+    read-valid (write_of w k) k (write-lt w k h) (write-valid w k) ∙ ap (λ (v : ℕ). found v k) (write_word w k)
 
-pub write_read : (n w : ℕ) (k : Kind) → read_of n ≡ Block w k → write_of w k ≡ n
+pub write_read : (n w : ℕ) (k : Kind) → read_of n ≡ found w k → write_of w k ≡ n
 write_read n w k e =
     let f = found-valid n w k e in ap (λ (v : ℕ). write_of v k) (sym f.2) ∙ valid-write k n f.1
 
-pub judge-write : (w : ℕ) (k : Kind) → w < 65536 → judge_of (write_of w k) k ≡ Good w
+pub judge-write : (w : ℕ) (k : Kind) → w < 65536 → judge_of (write_of w k) k ≡ Ok w
 judge-write w k h =
-    judge-valid (write_of w k) k (write-lt w k h) (write-valid w k) ∙ ap Good (write_word w k)
+    judge-valid (write_of w k) k (write-lt w k h) (write-valid w k) ∙ ap Ok (write_word w k)
 
-pub write-judge : (n w : ℕ) (k : Kind) → judge_of n k ≡ Good w → write_of w k ≡ n
+pub write-judge : (n w : ℕ) (k : Kind) → judge_of n k ≡ Ok w → write_of w k ≡ n
 write-judge n w k e =
     let f = judged-valid n w k e in ap (λ (v : ℕ). write_of v k) (sym f.2) ∙ valid-write k n f.1
 
@@ -249,14 +248,14 @@ module _ (n r : ℕ) (short : n < limit) (left : r ≡ remainder (n % limit)) wh
   left_is : r ≡ remainder n
   left_is = left ∙ ap remainder (omega arith)
 
-  pub read_left : (k : Kind) → r ≡ offset_of k → Block (word_of n) k ≡ read_of n
+  pub read_left : (k : Kind) → r ≡ offset_of k → found (word_of n) k ≡ read_of n
   read_left k e = sym (read-valid n k short (left-valid k n (sym left_is ∙ e)))
 
-  pub read_none_left : ((k : Kind) → r ≡ offset_of k → ⊥) → Nothing ≡ read_of n
+  pub read_none_left : ((k : Kind) → r ≡ offset_of k → ⊥) → (Ok None) ≡ read_of n
   read_none_left none = sym (read_nothing n short (λ k v. none k (left_is ∙ valid-left k n v)))
 
-  pub judge_left : (k : Kind) → r ≡ offset_of k → Good (word_of n) ≡ judge_of n k
+  pub judge_left : (k : Kind) → r ≡ offset_of k → Ok (word_of n) ≡ judge_of n k
   judge_left k e = sym (judge-valid n k short (left-valid k n (sym left_is ∙ e)))
 
-  pub judge_none_left : (k : Kind) → (r ≡ offset_of k → ⊥) → Bad ≡ judge_of n k
+  pub judge_none_left : (k : Kind) → (r ≡ offset_of k → ⊥) → (Err Bad) ≡ judge_of n k
   judge_none_left k none = sym (judge_bad n k short (λ v. none (left_is ∙ valid-left k n v)))

@@ -1,36 +1,31 @@
 -- The paper's number and values for each answer about a block.
-use Rattle.std.specs.Prelude.{ℕ, List, [], ◌∷◌, Bool, false, ◌||◌, cond, eqb, leb}
+use Rattle.std.specs.Prelude.{ℕ, List, [], ◌∷◌, Bool, false, ◌||◌, cond, eqb, leb, Ok, Err, Some, None}
 use Rattle.blocks.specs.Divide.{remainder}
-use Rattle.blocks.specs.Block.{kinds, offset_of, word_of, limit}
+use Rattle.blocks.specs.Block.{Found, Judged, kinds, offset_of, word_of, limit}
 use Rattle.blocks.specs.declared.Kind.{Kind}
-use Rattle.blocks.specs.declared.Found.{Found}
-use Rattle.blocks.specs.declared.Found.TheVariants.{Block, Nothing, TooLong}
-use Rattle.blocks.specs.declared.Judged.{Judged}
-use Rattle.blocks.specs.declared.Judged.TheVariants.{Good, Bad, Refused}
+use Rattle.blocks.specs.declared.BlockError.TheVariants.{Bad, TooLong}
 
 -- reading: 12 is "block over 26 bits"; a word and kind, and "none", are no refusals
 abbrev pub found_number : Found → ℕ
-found_number (Block word k) = 0
-found_number Nothing = 0
-found_number TooLong = 12
+found_number (Ok found) = 0
+found_number (Err too_long) = 12
 
 -- reading: the word and the offset of its kind, where there are any
 abbrev pub found_values : Found → List ℕ
-found_values (Block word k) = word ∷ offset_of k ∷ []
-found_values Nothing = []
-found_values TooLong = []
+found_values (Ok (Some block)) = block.word ∷ offset_of block.kind ∷ []
+found_values (Ok None) = []
+found_values (Err too_long) = []
 
 -- judging: the same number
 abbrev pub judged_number : Judged → ℕ
-judged_number (Good word) = 0
-judged_number Bad = 0
-judged_number Refused = 12
+judged_number (Ok word) = 0
+judged_number (Err Bad) = 0
+judged_number (Err TooLong) = 12
 
 -- judging: the word, where the block is good
 abbrev pub judged_values : Judged → List ℕ
-judged_values (Good word) = word ∷ []
-judged_values Bad = []
-judged_values Refused = []
+judged_values (Ok word) = word ∷ []
+judged_values (Err error) = []
 
 -- the number for n: 12 exactly if it is over 26 bits
 abbrev pub length_number : ℕ → ℕ

@@ -9,7 +9,7 @@ ghost use Rattle.blocks.specs.Answers.{found_number, found_values, judged_number
 ghost use Rattle.blocks.specs.Answers.{length_number, read_values, judge_values};
 
 // The kinds of block, in the order of a group; C and C' are the two third ones.
-#[derive(Clone, Copy)]
+#[derive(Clone, Copy, PartialEq, Eq)]
 pub enum Kind {
     A,
     B,
@@ -18,21 +18,26 @@ pub enum Kind {
     D,
 }
 
-// What reading 26 bits finds: the word and its kind, or none; or that there were more than 26 bits.
+// A valid block: its word and its kind.
 #[derive(Clone, Copy)]
-pub enum Found {
-    Block(u16, Kind),
-    Nothing,
+pub struct Block {
+    pub word: u16,
+    pub kind: Kind,
+}
+
+// There are more than 26 bits.
+#[derive(Clone, Copy, PartialEq, Eq)]
+pub struct TooLong;
+
+// Why bits are no block of the kind that is expected: they are not valid as it, or more than 26.
+#[derive(Clone, Copy, PartialEq, Eq)]
+pub enum BlockError {
+    Bad,
     TooLong,
 }
 
-// What 26 bits are where a kind is expected: good with their word, or bad; or more than 26 bits.
-#[derive(Clone, Copy)]
-pub enum Judged {
-    Good(u16),
-    Bad,
-    Refused,
-}
+// How a block was judged where a kind was expected: the word of a good one.
+pub type Judged = Result<u16, BlockError>;
 
 // One more than the largest number of 26 bits.
 const LIMIT: u32 = 0x4000000;
@@ -103,23 +108,23 @@ pub fn write(word: u16, kind: Kind) -> u32
 }
 
 // The word and kind of a block, or none; 12 where there are more than 26 bits.
-pub fn read(bits: u32) -> Found
+pub fn read(bits: u32) -> Result<Option<Block>, TooLong>
     ensures { (result ≡ read_of bits) × (found_number result ≡ length_number bits)
         × (found_values result ≡ read_values bits) }
 {
     if bits >= LIMIT {
-        return Found::TooLong;
+        return Err(TooLong);
     }
     let word = (bits / 1024) as u16;
-    let offset = left(bits);
-    match offset {
-        OFFSET_A => Found::Block(word, Kind::A),
-        OFFSET_B => Found::Block(word, Kind::B),
-        OFFSET_C => Found::Block(word, Kind::C),
-        OFFSET_C_PRIME => Found::Block(word, Kind::CPrime),
-        OFFSET_D => Found::Block(word, Kind::D),
-        _ => Found::Nothing,
-    }
+    let kind = match left(bits) {
+        OFFSET_A => Kind::A,
+        OFFSET_B => Kind::B,
+        OFFSET_C => Kind::C,
+        OFFSET_C_PRIME => Kind::CPrime,
+        OFFSET_D => Kind::D,
+        _ => return Ok(None),
+    };
+    Ok(Some(Block { word, kind }))
 }
 
 // A block where a kind is expected: good with its word, or bad; 12 where there are more than 26 bits.
@@ -128,12 +133,10 @@ pub fn judge(bits: u32, kind: Kind) -> Judged
         × (judged_values result ≡ judge_values bits kind) }
 {
     if bits >= LIMIT {
-        return Judged::Refused;
+        return Err(BlockError::TooLong);
     }
-    let word = (bits / 1024) as u16;
-    if left(bits) == offset(kind) {
-        Judged::Good(word)
-    } else {
-        Judged::Bad
+    if left(bits) != offset(kind) {
+        return Err(BlockError::Bad);
     }
+    Ok((bits / 1024) as u16)
 }

@@ -1,11 +1,9 @@
 -- Blocks: each kind and each answer as one number.
-use Rattle.std.specs.Prelude.{ℕ, ◌+◌, ◌*◌, ◌^◌, cond, eqb}
+use Rattle.std.specs.Prelude.{ℕ, ◌+◌, ◌*◌, ◌^◌, cond, eqb, Ok, Err, Some, None}
 use Rattle.blocks.specs.declared.Kind.{Kind}
 use Rattle.blocks.specs.declared.Kind.TheVariants.{A, B, C, CPrime, D}
-use Rattle.blocks.specs.declared.Found.{Found}
-use Rattle.blocks.specs.declared.Found.TheVariants.{Block, Nothing, TooLong}
-use Rattle.blocks.specs.declared.Judged.{Judged}
-use Rattle.blocks.specs.declared.Judged.TheVariants.{Good, Bad, Refused}
+use Rattle.blocks.specs.declared.BlockError.TheVariants.{Bad, TooLong}
+use Rattle.blocks.specs.Block.{Found, Judged}
 
 -- the kinds are 1 to 5
 abbrev pub kind_number : Kind → ℕ
@@ -21,12 +19,12 @@ kind_numbered n = cond (eqb n 1) A (cond (eqb n 2) B (cond (eqb n 3) C (cond (eq
 
 -- reading: the kind above the word; 0 for none, 12 where it is refused
 abbrev pub found_code : Found → ℕ
-found_code (Block word k) = kind_number k * 2 ^ 16 + word
-found_code Nothing = 0
-found_code TooLong = 12
+found_code (Ok (Some block)) = kind_number block.kind * 2 ^ 16 + block.word
+found_code (Ok None) = 0
+found_code (Err too_long) = 12
 
 -- judging: 1 above the word; 0 for bad, 12 where it is refused
 abbrev pub judged_code : Judged → ℕ
-judged_code (Good word) = 2 ^ 16 + word
-judged_code Bad = 0
-judged_code Refused = 12
+judged_code (Ok word) = 2 ^ 16 + word
+judged_code (Err Bad) = 0
+judged_code (Err TooLong) = 12

@@ -3,7 +3,7 @@ ghost use Rattle.std.specs.Prelude.{◌≡◌, ◌≤◌};
 ghost use Rattle.blocks.specs.Block.{write_of, read_of, judge_of};
 ghost use Rattle.capi.specs.Blocks.{kind_number, kind_numbered, found_code, judged_code};
 
-use blocks::{Found, Judged, Kind};
+use blocks::{Block, BlockError, Judged, Kind, TooLong};
 
 // What one is worth above the 16 bits of a word.
 const ABOVE_WORD: u32 = 0x10000;
@@ -37,13 +37,13 @@ fn kind_numbered(number: u8) -> Kind
     }
 }
 
-fn found_code(found: Found) -> u32
+fn found_code(found: Result<Option<Block>, TooLong>) -> u32
     ensures { result ≡ found_code found }
 {
     match found {
-        Found::Block(word, kind) => kind_number(kind) * ABOVE_WORD + (word as u32),
-        Found::Nothing => 0,
-        Found::TooLong => OVER,
+        Ok(Some(block)) => kind_number(block.kind) * ABOVE_WORD + u32::from(block.word),
+        Ok(None) => 0,
+        Err(TooLong) => OVER,
     }
 }
 
@@ -51,9 +51,9 @@ fn judged_code(judged: Judged) -> u32
     ensures { result ≡ judged_code judged }
 {
     match judged {
-        Judged::Good(word) => ABOVE_WORD + (word as u32),
-        Judged::Bad => 0,
-        Judged::Refused => OVER,
+        Ok(word) => ABOVE_WORD + u32::from(word),
+        Err(BlockError::Bad) => 0,
+        Err(BlockError::TooLong) => OVER,
     }
 }
 

@@ -5,8 +5,8 @@ ghost use Rattle.groups.specs.Written.{put_at_of, put_number, buffer_of, group_i
 ghost use Rattle.capi.specs.Groups.{word_code, carried_code};
 
 use groups::Group;
-use groups::bytes::Put;
-use groups::fields::Carried;
+use groups::bytes::TooShort;
+use groups::fields::Switches;
 
 // What one is worth above the 16 bits of a word.
 const ABOVE_WORD: u32 = 0x10000;
@@ -29,12 +29,12 @@ pub fn bench_put_group(
     put_code(groups::bytes::put_at([word1, word2, word3, word4], out, at))
 }
 
-fn put_code(put: Put) -> u8
+fn put_code(put: Result<(), TooShort>) -> u8
     ensures { result ≡ put_number put }
 {
     match put {
-        Put::Done => 0,
-        Put::TooShort => TOO_SHORT,
+        Ok(()) => 0,
+        Err(TooShort) => TOO_SHORT,
     }
 }
 
@@ -62,15 +62,12 @@ pub fn bench_switches(word2: u16) -> u8
     carried_code(groups::fields::switches_of(groups::all_good([0, word2, 0, 0])))
 }
 
-fn carried_code(carried: Carried) -> u8
+fn carried_code(carried: Option<Switches>) -> u8
     ensures { result ≡ carried_code carried }
 {
     match carried {
-        Carried::Carries(switches) => 8
-            + 4 * bit(switches.ta)
-            + 2 * bit(switches.ms)
-            + bit(switches.di),
-        Carried::CarriesNone => 0,
+        Some(switches) => 8 + 4 * bit(switches.ta) + 2 * bit(switches.ms) + bit(switches.di),
+        None => 0,
     }
 }
 

@@ -17,6 +17,10 @@ use Rattle.capi_states.specs.Hearing.{fed, place_after, state_after, told_after}
 pub told_room : (state told : ℕ) → no_room state told ≡ false → told_size ≤ told
 told_room state told e = ltb-false told told_size (or-none (ltb state state_length) (ltb told told_size) e).1
 
+-- and for the state
+pub state_room : (state told : ℕ) → no_room state told ≡ false → state_length ≤ state
+state_room state told e = ltb-false state state_length (or-none (ltb state state_length) (ltb told told_size) e).0
+
 -- ---- a bit
 
 module _ (state : List ℕ) (bit : ℕ) (told : List ℕ) where

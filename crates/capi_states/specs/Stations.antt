@@ -1,7 +1,8 @@
 -- The station record: groups in bytes, and the record after them as numbers of eight bytes each.
 use Rattle.std.specs.Prelude.{ℕ, zero, suc, ◌+◌, ◌-◌, ◌*◌, ◌/◌, ◌%◌, ◌^◌, false, cond, List, [], ◌∷◌, ◌++◌, eqb, ltb, length, get_or, drop}
-use Rattle.blocks.specs.declared.Judged.{Judged}
-use Rattle.blocks.specs.declared.Judged.TheVariants.{Good, Bad}
+use Rattle.std.specs.Prelude.{Ok, Err}
+use Rattle.blocks.specs.Block.{Judged}
+use Rattle.blocks.specs.declared.BlockError.TheVariants.{Bad}
 use Rattle.groups.specs.declared.Group.{Group}
 use Rattle.groups.specs.Group.{empty_of, with_block_of}
 use Rattle.clock.specs.Local.{local_date_of}
@@ -21,7 +22,7 @@ use Rattle.capi.specs.Frequencies.{list_code}
 
 -- a word, good where the mark's last bit is 1
 abbrev pub judged_of : ℕ → ℕ → Judged
-judged_of mark word = cond (eqb (mark % 2) 1) (Good word) Bad
+judged_of mark word = cond (eqb (mark % 2) 1) (Ok word) (Err Bad)
 
 -- the word at a place
 abbrev pub pair_at : List ℕ → ℕ → ℕ

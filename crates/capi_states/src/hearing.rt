@@ -9,8 +9,8 @@ ghost use Rattle.capi_states.specs.Hearing.{answer_code, told_size, told_of, no_
 ghost use Rattle.capi_states.specs.Hearing.{state_after, told_after, place_after, stepped_state, stepped_told};
 
 use groups::Group;
-use receiver::{Advanced, Answer, Receiver};
-use saving::Saved;
+use groups::bytes::TooShort;
+use receiver::{Answer, Receiver};
 
 // The bytes of a state, and of what is told.
 const STATE_SIZE: usize = 25;
@@ -30,12 +30,12 @@ pub fn bench_fresh(state: &mut [u8]) -> u8
     saved_code(saving::save(Receiver::new(), state))
 }
 
-fn saved_code(saved: Saved) -> u8
+fn saved_code(saved: Result<(), TooShort>) -> u8
     ensures { result ≡ saved_number saved }
 {
     match saved {
-        Saved::Done => 0,
-        Saved::TooShort => TOO_SHORT,
+        Ok(()) => 0,
+        Err(TooShort) => TOO_SHORT,
     }
 }
 
@@ -55,7 +55,7 @@ pub fn bench_take_bit(state: &mut [u8], bit: u8, told: &mut [u8]) -> u8
     let next = step.next;
     let answer = step.answer;
     let group = step.group;
-    saving::save(next, state);
+    saving::save(next, state).unwrap();
     put_told(answer, group, 0, told);
     0
 }
@@ -74,7 +74,7 @@ pub fn bench_feed(state: &mut [u8], bytes: &[u8], byte: usize, bit: u8, told: &m
     let next = came.next;
     let answer = came.answer;
     let group = came.group;
-    saving::save(next, state);
+    saving::save(next, state).unwrap();
     put_told(answer, group, came.bit, told);
     came.byte
 }

@@ -7,7 +7,7 @@ ghost use Rattle.capi_states.specs.Stations.{judged_of, pair_at, group_at, recor
 ghost use Rattle.capi_states.specs.Stations.{head_of, name_number, text_number, number_of, byte_of};
 ghost use Rattle.capi_states.specs.Stations.{record_size, record_buffer};
 
-use blocks::Judged;
+use blocks::{BlockError, Judged};
 use groups::Group;
 use station::{HeldFlag, HeldPi, Record};
 
@@ -49,9 +49,9 @@ fn judged(mark: u8, word: u16) -> Judged
     ensures { result ≡ judged_of mark word }
 {
     if mark % 2 == 1 {
-        return Judged::Good(word);
+        return Ok(word);
     }
-    Judged::Bad
+    Err(BlockError::Bad)
 }
 
 // The word at a place.

@@ -8,7 +8,7 @@ use Rattle.bits.specs.Bytes.{Bytes, bytes_of}
 use Rattle.bits.proofs.ByteBits.{bytes_of-spell}
 use Rattle.blocks.specs.Block.{judge_of}
 use Rattle.blocks.specs.declared.Kind.TheVariants.{A, B, D}
-use Rattle.blocks.specs.declared.Judged.TheVariants.{Good}
+use Rattle.std.specs.Prelude.{Ok}
 use Rattle.blocks.proofs.Reading.{read-write, write_read, judge-write, write-judge}
 use Rattle.groups.specs.Header.{third_kind}
 use Rattle.groups.specs.Written.{group_size, blocks_of, four_blocks, group_bytes, block_in}
@@ -29,8 +29,8 @@ blocks_back =
 
 module _ (a b c d one two three four : ℕ) where
   blocks_read : Word a → Word b → Word c → Word d → blocks_of (a ∷ b ∷ c ∷ d ∷ []) ≡ one ∷ two ∷ three ∷ four ∷ []
-      → (judge_of one A ≡ Good a) × (judge_of two B ≡ Good b) × (judge_of three (third_kind b) ≡ Good c)
-      × (judge_of four D ≡ Good d)
+      → (judge_of one A ≡ Ok a) × (judge_of two B ≡ Ok b) × (judge_of three (third_kind b) ≡ Ok c)
+      × (judge_of four D ≡ Ok d)
   unfolding blocks_of
   blocks_read la lb lc ld e =
       let at : (i : ℕ) → get_or (blocks_of (a ∷ b ∷ c ∷ d ∷ [])) i 0 ≡ get_or (one ∷ two ∷ three ∷ four ∷ []) i 0 =
@@ -41,8 +41,8 @@ module _ (a b c d one two three four : ℕ) where
         rw (sym (at 3)) (judge-write d D ld),
       )
 
-  blocks_written : judge_of one A ≡ Good a → judge_of two B ≡ Good b → judge_of three (third_kind b) ≡ Good c
-      → judge_of four D ≡ Good d → blocks_of (a ∷ b ∷ c ∷ d ∷ []) ≡ one ∷ two ∷ three ∷ four ∷ []
+  blocks_written : judge_of one A ≡ Ok a → judge_of two B ≡ Ok b → judge_of three (third_kind b) ≡ Ok c
+      → judge_of four D ≡ Ok d → blocks_of (a ∷ b ∷ c ∷ d ∷ []) ≡ one ∷ two ∷ three ∷ four ∷ []
   unfolding blocks_of
   blocks_written p q r s =
       rw (write-judge one a A p, write-judge two b B q, write-judge three c (third_kind b) r, write-judge four d D s)

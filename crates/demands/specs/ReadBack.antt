@@ -1,12 +1,10 @@
 -- Demand 2: what is written is read back the same, and what is read is written back the same: blocks, groups, the
 -- clock, frequencies, the receiver's state. And what the receiver and the record say is read off all that came so far.
-use Rattle.std.specs.Prelude.{ℕ, ◌^◌, ◌<◌, ◌≤◌, ◌≡◌, List, [], ◌∷◌, Bool, true, length}
+use Rattle.std.specs.Prelude.{ℕ, ◌^◌, ◌<◌, ◌≤◌, ◌≡◌, List, [], ◌∷◌, Bool, true, length, Ok}
 use Rattle.bits.specs.Bytes.{Bytes, bytes_of}
-use Rattle.blocks.specs.Block.{Valid, write_of, read_of, judge_of}
+use Rattle.blocks.specs.Block.{Valid, write_of, found, read_of, judge_of}
 use Rattle.blocks.specs.declared.Kind.{Kind}
 use Rattle.blocks.specs.declared.Kind.TheVariants.{A, B, D}
-use Rattle.blocks.specs.declared.Found.TheVariants.{Block}
-use Rattle.blocks.specs.declared.Judged.TheVariants.{Good}
 use Rattle.groups.specs.Group.{all_good_of}
 use Rattle.groups.specs.Header.{third_kind, expected_of}
 use Rattle.groups.specs.Written.{group_size, blocks_of, four_blocks, group_bytes, block_in, word_in, group_in}
@@ -36,10 +34,10 @@ Word w = w < 2 ^ 16
 -- any word, written as a block of any kind, is read as that word and kind, and judged good where that kind is expected;
 -- and 26 bits that are read as a word and kind, or judged good, are what that word is written as
 pub record BlocksBack : Type 0 where
-  pub read-write : (w : ℕ) (k : Kind) → Word w → read_of (write_of w k) ≡ Block w k
-  pub write_read : (n w : ℕ) (k : Kind) → read_of n ≡ Block w k → write_of w k ≡ n
-  pub judge-write : (w : ℕ) (k : Kind) → Word w → judge_of (write_of w k) k ≡ Good w
-  pub write-judge : (n w : ℕ) (k : Kind) → judge_of n k ≡ Good w → write_of w k ≡ n
+  pub read-write : (w : ℕ) (k : Kind) → Word w → read_of (write_of w k) ≡ found w k
+  pub write_read : (n w : ℕ) (k : Kind) → read_of n ≡ found w k → write_of w k ≡ n
+  pub judge-write : (w : ℕ) (k : Kind) → Word w → judge_of (write_of w k) k ≡ Ok w
+  pub write-judge : (n w : ℕ) (k : Kind) → judge_of n k ≡ Ok w → write_of w k ≡ n
 
 -- ---- groups
 
@@ -48,10 +46,10 @@ pub record BlocksBack : Type 0 where
 pub record FourBlocksBack : Type 0 where
   pub judge-write : (a b c d : ℕ) → Word a → Word b → Word c → Word d
       → (one two three four : ℕ) → blocks_of (a ∷ b ∷ c ∷ d ∷ []) ≡ one ∷ two ∷ three ∷ four ∷ []
-      → (judge_of one A ≡ Good a) × (judge_of two B ≡ Good b) × (judge_of three (third_kind b) ≡ Good c)
-      × (judge_of four D ≡ Good d)
+      → (judge_of one A ≡ Ok a) × (judge_of two B ≡ Ok b) × (judge_of three (third_kind b) ≡ Ok c)
+      × (judge_of four D ≡ Ok d)
   pub write-judge : (a b c d one two three four : ℕ)
-      → judge_of one A ≡ Good a → judge_of two B ≡ Good b → judge_of three (third_kind b) ≡ Good c → judge_of four D ≡ Good d
+      → judge_of one A ≡ Ok a → judge_of two B ≡ Ok b → judge_of three (third_kind b) ≡ Ok c → judge_of four D ≡ Ok d
       → blocks_of (a ∷ b ∷ c ∷ d ∷ []) ≡ one ∷ two ∷ three ∷ four ∷ []
 
 -- 13 bytes have the four blocks that were written as them, and any 13 bytes are their four blocks, written again. So

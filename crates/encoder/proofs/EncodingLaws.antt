@@ -13,7 +13,7 @@ use Rattle.groups.proofs.RoomLaws.{length-group}
 use Rattle.groups.proofs.BlocksInBytes.{block_in-drop, word_in-drop}
 use Rattle.groups.proofs.RoundTrip.{block_in_group, word_in_group}
 use Rattle.blocks.specs.Block.{judge_of}
-use Rattle.blocks.specs.declared.Judged.TheVariants.{Good}
+use Rattle.std.specs.Prelude.{Ok}
 use Rattle.blocks.proofs.Reading.{judge-write}
 use Rattle.groups.specs.Header.{expected_of}
 use Rattle.keys.specs.Wanted.{all_addresses}
@@ -121,7 +121,7 @@ module _ (k : List ℕ) where
       -- each block is good at its place
       pub judged_at_lem : (p : ℕ) → p < 4
           → judge_of (block_in (encoding k list) (4 * g + p)) (expected_of p (word_in (encoding k list) (4 * g + 1)))
-          ≡ Good (get_or (words_at k (get_or list g 0)) p 0)
+          ≡ Ok (get_or (words_at k (get_or list g 0)) p 0)
       judged_at_lem p h =
           ap₂ (λ (n w : ℕ). judge_of n (expected_of p w)) (block_at p h) (word_at_lem 1 (omega arith))
           ∙ judge-write (get_or words p 0) (expected_of p (get_or words 1 0)) (words-lt k bytes (get_or list g 0) address p)

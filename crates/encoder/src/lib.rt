@@ -94,7 +94,7 @@ fn put_groups(key: Key, out: &mut [u8])
     let mut address: u8 = 0;
     while address < count {
         let words = words_at(key, address);
-        groups::bytes::put_at(words, out, GROUP_SIZE * (address as usize));
+        groups::bytes::put_at(words, out, GROUP_SIZE * (address as usize)).unwrap();
         address += 1;
     }
 }

@@ -10,7 +10,7 @@ use Rattle.bits.specs.Bytes.{bit_at, Bytes}
 use Rattle.bits.proofs.Spelling.{spell_add}
 use Rattle.bits.proofs.ByteBits.{bit_at_lt, spell-bytes_of, bytes_of-spell}
 use Rattle.blocks.specs.Block.{write_of, Valid, judge_of}
-use Rattle.blocks.specs.declared.Judged.TheVariants.{Good}
+use Rattle.std.specs.Prelude.{Ok}
 use Rattle.blocks.proofs.Validity.{write-lt, write_word, valid-write}
 use Rattle.blocks.proofs.Reading.{judge-write}
 use Rattle.groups.specs.Group.{with_block_of, all_good_of}
@@ -48,7 +48,7 @@ module _ (words : List ℕ) (fits : Words words) where
       ∙ write_word (get_or words i 0) (expected_of i (get_or words 1 0))
 
   -- each block is good at its place
-  pub judged_in_group : (i : ℕ) → i < 4 → judged_in (group_bytes words) i ≡ Good (get_or words i 0)
+  pub judged_in_group : (i : ℕ) → i < 4 → judged_in (group_bytes words) i ≡ Ok (get_or words i 0)
   judged_in_group i h =
       ap₂ (λ (n w : ℕ). judge_of n (expected_of i w)) (block_in_group i h) (word_in_group 1 (omega arith))
       ∙ judge-write (get_or words i 0) (expected_of i (get_or words 1 0)) (fits i)

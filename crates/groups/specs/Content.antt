@@ -1,12 +1,10 @@
 -- What a group carries by its type: 0A and 0B, 2A, 2B, 4A, or another.
-use Rattle.std.specs.Prelude.{ℕ, ◌/◌, ◌%◌, ◌^◌, Bool, cond, eqb}
+use Rattle.std.specs.Prelude.{ℕ, ◌/◌, ◌%◌, ◌^◌, Bool, cond, eqb, Option, Some, None}
 use Rattle.groups.specs.Header.{type_of, version_of, pty_of, low_of}
 use Rattle.groups.specs.declared.fields.Header.{Header}
 use Rattle.groups.specs.declared.fields.Switches.{Switches}
 use Rattle.groups.specs.declared.fields.Content.{Content}
 use Rattle.groups.specs.declared.fields.Content.TheVariants.{Name0A, Name0B, Text2A, Text2B, Clock4A, Other}
-use Rattle.groups.specs.declared.fields.Carried.{Carried}
-use Rattle.groups.specs.declared.fields.Carried.TheVariants.{Carries, CarriesNone}
 
 -- bit i of a word
 abbrev pub bit_of : ℕ → ℕ → Bool
@@ -55,8 +53,8 @@ content_of word2 word3 word4 =
     (cond (eqb (type_of word2) 4) (cond (eqb (version_of word2) 0) Clock4A Other) Other))
 
 -- TA, M/S and DI can be read from 0A and 0B; other groups carry none
-unfoldable pub carried_of : ℕ → Carried
-carried_of word2 = cond (eqb (type_of word2) 0) (Carries (switches_of word2)) CarriesNone
+unfoldable pub carried_of : ℕ → Option Switches
+carried_of word2 = cond (eqb (type_of word2) 0) (Some (switches_of word2)) None
 
 -- the two characters, or codes, of a word: high byte first
 abbrev pub first_of : ℕ → ℕ

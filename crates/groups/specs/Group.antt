@@ -1,7 +1,7 @@
 -- The group: four words of 16 bits, and a mask that says, by one yes or no for each word, which were good.
-use Rattle.std.specs.Prelude.{ℕ, List, Bool, true, false, cond, ◌&&◌, leb, get_or, set, replicate}
-use Rattle.blocks.specs.declared.Judged.{Judged}
-use Rattle.blocks.specs.declared.Judged.TheVariants.{Good, Bad, Refused}
+use Rattle.std.specs.Prelude.{ℕ, List, Bool, true, false, cond, ◌&&◌, leb, get_or, set, replicate, is_ok}
+use Rattle.std.specs.Result.{result_unwrap_or}
+use Rattle.blocks.specs.Block.{Judged}
 use Rattle.groups.specs.declared.Group.{Group}
 
 -- ---- reading a group
@@ -34,14 +34,10 @@ empty_of = record { words = replicate places 0; good = replicate places false }
 
 -- a bad block's word is answered as 0
 abbrev pub judged_word : Judged → ℕ
-judged_word (Good word) = word
-judged_word Bad = 0
-judged_word Refused = 0
+judged_word judged = result_unwrap_or judged 0
 
 abbrev pub judged_good : Judged → Bool
-judged_good (Good word) = true
-judged_good Bad = false
-judged_good Refused = false
+judged_good judged = is_ok judged
 
 -- a judged block at place i; nothing changes where there is no such place
 unfoldable pub with_block_of : Group → ℕ → Judged → Group

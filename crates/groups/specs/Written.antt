@@ -1,15 +1,14 @@
 -- A group as it is sent: four blocks, and thirteen bytes, eight bits to a byte, first bit highest; and read back from
 -- them.
 use Rattle.std.specs.Prelude.{ℕ, ◌+◌, ◌*◌, ◌^◌, List, [], ◌∷◌, ◌++◌, Bool, cond, ltb, length, get_or, take, drop}
+use Rattle.std.specs.Prelude.{Result, Ok, Err}
 use Rattle.bits.specs.Spell.{spell}
 use Rattle.bits.specs.Bytes.{bit_at, bytes_of}
-use Rattle.blocks.specs.Block.{write_of, judge_of}
-use Rattle.blocks.specs.declared.Judged.{Judged}
+use Rattle.blocks.specs.Block.{Judged, write_of, judge_of}
 use Rattle.groups.specs.Group.{empty_of, with_block_of}
 use Rattle.groups.specs.Header.{expected_of}
 use Rattle.groups.specs.declared.Group.{Group}
-use Rattle.groups.specs.declared.bytes.Put.{Put}
-use Rattle.groups.specs.declared.bytes.Put.TheVariants.{Done, TooShort}
+use Rattle.groups.specs.declared.bytes.TooShort.{TooShort}
 
 -- ---- writing
 
@@ -38,13 +37,13 @@ group_bytes words = bytes_of group_size (four_blocks (block_of words 0) (block_o
 unfoldable pub no_room : List ℕ → ℕ → Bool
 no_room out at = ltb (length out) (at + group_size)
 
-unfoldable pub put_at_of : List ℕ → ℕ → Put
-put_at_of out at = cond (no_room out at) TooShort Done
+unfoldable pub put_at_of : List ℕ → ℕ → Result (Unit {0}) TooShort
+put_at_of out at = cond (no_room out at) (Err (record {})) (Ok tt)
 
 -- 8 is "buffer too short"
-abbrev pub put_number : Put → ℕ
-put_number Done = 0
-put_number TooShort = 8
+abbrev pub put_number : Result (Unit {0}) TooShort → ℕ
+put_number (Ok done) = 0
+put_number (Err too_short) = 8
 
 -- the buffer afterwards: the 13 bytes in their place, all others as they were
 unfoldable pub buffer_of : List ℕ → List ℕ → ℕ → List ℕ

@@ -9,12 +9,9 @@ ghost use Rattle.groups.specs.Written.{block_in, word_in, judged_in, group_in};
 use crate::Group;
 use blocks::{Judged, Kind};
 
-// Whether a group was put into a buffer.
-#[derive(Clone, Copy)]
-pub enum Put {
-    Done,
-    TooShort,
-}
+// A buffer has no room for a group.
+#[derive(Clone, Copy, PartialEq, Eq)]
+pub struct TooShort;
 
 // The bytes of a group.
 const SIZE: usize = 13;
@@ -87,18 +84,15 @@ fn put_bytes(bytes: [u8; 13], out: &mut [u8], at: usize)
 }
 
 // Four words as thirteen bytes into a buffer, from byte `at` on; where there is no room the buffer stays as it is.
-pub fn put_at(words: [u16; 4], out: &mut [u8], at: usize) -> Put
+pub fn put_at(words: [u16; 4], out: &mut [u8], at: usize) -> Result<(), TooShort>
     ensures { (result ≡ put_at_of out.old at) × (put_number result ≡ cond (no_room out.old at) 8 0)
         × (out.new ≡ buffer_of words out.old at) }
 {
-    if out.len() < SIZE {
-        return Put::TooShort;
-    }
-    if out.len() - SIZE < at {
-        return Put::TooShort;
+    if out.len().saturating_sub(at) < SIZE {
+        return Err(TooShort);
     }
     put_bytes(bytes_of(words), out, at);
-    Put::Done
+    Ok(())
 }
 
 // A byte of a slice; 0 past its end.

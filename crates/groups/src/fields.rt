@@ -54,13 +54,6 @@ pub enum Content {
     Other,
 }
 
-// The switches of a group, or that it carries none.
-#[derive(Clone, Copy)]
-pub enum Carried {
-    Carries(Switches),
-    CarriesNone,
-}
-
 // The header of a group.
 pub fn header_of(group: Group) -> Header
     ensures { result ≡ header_of (word_of group 0) (word_of group 1) }
@@ -158,15 +151,15 @@ pub fn content_of(group: Group) -> Content
     )
 }
 
-// The switches that a group carries.
-pub fn switches_of(group: Group) -> Carried
+// The switches that a group carries, or none.
+pub fn switches_of(group: Group) -> Option<Switches>
     ensures { result ≡ carried_of (word_of group 1) }
 {
     let word2 = crate::word(group, 1);
     if word2 / 4096 == 0 {
-        Carried::Carries(switches_from(word2))
+        Some(switches_from(word2))
     } else {
-        Carried::CarriesNone
+        None
     }
 }
 

@@ -5,7 +5,6 @@
 ghost use Rattle.std.specs.Prelude.{◌≡◌};
 ghost use Rattle.groups.specs.Header.{third_kind, expected_of};
 ghost use Rattle.groups.specs.Group.{empty_of, with_block_of, all_good_of, word_of, good_of, is_all_good_of, counts_of};
-ghost use Rattle.groups.specs.Group.{judged_word, judged_good};
 
 pub mod bytes;
 pub mod fields;
@@ -32,29 +31,7 @@ pub fn empty() -> Group
     }
 }
 
-// The word that a judged block brings; 0 where it is bad.
-fn judged_word(judged: Judged) -> u16
-    ensures { result ≡ judged_word judged }
-{
-    match judged {
-        Judged::Good(word) => word,
-        Judged::Bad => 0,
-        Judged::Refused => 0,
-    }
-}
-
-// Whether a judged block is good.
-fn judged_good(judged: Judged) -> bool
-    ensures { result ≡ judged_good judged }
-{
-    match judged {
-        Judged::Good(_) => true,
-        Judged::Bad => false,
-        Judged::Refused => false,
-    }
-}
-
-// The group with a judged block at a place, 0 to 3; at no other place does it change.
+// The group with a judged block at a place, 0 to 3; at no other place does it change. A bad block's word is 0.
 pub fn with_block(group: Group, place: usize, judged: Judged) -> Group
     ensures { result ≡ with_block_of group place judged }
 {
@@ -63,8 +40,8 @@ pub fn with_block(group: Group, place: usize, judged: Judged) -> Group
     }
     let mut words = group.words;
     let mut good = group.good;
-    words[place] = judged_word(judged);
-    good[place] = judged_good(judged);
+    words[place] = judged.unwrap_or(0);
+    good[place] = judged.is_ok();
     Group { words, good }
 }
 

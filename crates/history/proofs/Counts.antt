@@ -5,7 +5,7 @@ use mathlib.Core.Bool.{Bool, true, false, cond}
 use native.Mathlib.Nat.{add-zero}
 use native.Mathlib.Omega.{arith}
 use borrow.Author.Tests.{lt-ltb}
-use Rattle.blocks.specs.declared.Judged.{Judged}
+use Rattle.blocks.specs.Block.{Judged}
 use Rattle.groups.specs.declared.Group.{Group}
 use Rattle.groups.specs.Group.{empty_of, with_block_of}
 use Rattle.receiver.specs.Rules.{is_bad_of}

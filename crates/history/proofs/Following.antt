@@ -13,7 +13,7 @@ use borrow.Author.Tests.{lt-ltb, le-ltb, eq-eqb, ne_eqb, eqb-true, le-leb, lt-le
 use Rattle.bits.specs.Spell.{spell, Bits, listed}
 use Rattle.bits.proofs.Order.{lt-or-le}
 use Rattle.blocks.specs.declared.Kind.{Kind}
-use Rattle.blocks.specs.declared.Judged.{Judged}
+use Rattle.blocks.specs.Block.{Judged}
 use Rattle.groups.specs.declared.Group.{Group}
 use Rattle.groups.specs.Group.{places, empty_of, with_block_of}
 use Rattle.receiver.specs.declared.Place.{Place}

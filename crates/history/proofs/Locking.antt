@@ -9,20 +9,16 @@ use lib.Seq.{get_or-drop}
 use borrow.Author.Tests.{lt-ltb, le-ltb}
 use Rattle.bits.specs.Spell.{spell, Bits, listed}
 use Rattle.bits.proofs.Order.{lt-or-le}
-use Rattle.blocks.specs.Block.{read_of, judge_of}
+use Rattle.blocks.specs.Block.{Found, Judged, found, read_of, judge_of}
 use Rattle.blocks.proofs.Reading.{found-valid, judge-valid}
 use Rattle.blocks.specs.declared.Kind.{Kind}
 use Rattle.blocks.specs.declared.Kind.TheVariants.{A, B, C, CPrime, D}
-use Rattle.blocks.specs.declared.Found.{Found}
-use Rattle.blocks.specs.declared.Found.TheVariants.{Block, Nothing, TooLong}
-use Rattle.blocks.specs.declared.Judged.{Judged}
-use Rattle.blocks.specs.declared.Judged.TheVariants.{Good, Bad, Refused}
+use Rattle.std.specs.Prelude.{Ok, Err, Option, Some, None}
 use Rattle.groups.specs.declared.Group.{Group}
 use Rattle.groups.specs.Group.{empty_of}
 use Rattle.receiver.specs.declared.Lock.{Lock}
-use Rattle.receiver.specs.declared.Lock.TheVariants.{At, No}
 use Rattle.receiver.specs.declared.Receiver.{Receiver}
-use Rattle.receiver.specs.Rules.{follower_of, joined_of, pair_of, lock_of}
+use Rattle.receiver.specs.Rules.{follower_of, locking, joined_of, pair_of, lock_of}
 use Rattle.receiver.specs.Machine.{hunting_of, locked_of, silent_of, tried_of, hunt_of}
 use Rattle.history.specs.Locked.{block_of, place_at, judged_in, bads_from}
 use Rattle.history.specs.Heard.{hunting, silent_in, last_pair, tried_on, hunted_on}
@@ -35,33 +31,37 @@ use Rattle.history.proofs.Relation.{state_at, Follows, Agrees}
 
 -- X and its follower, each good as its kind
 pub record Pair (older newer : ℕ) (kind : Kind) (word next : ℕ) : Type 0 where
-  pub first : judge_of older kind ≡ Good word
-  pub second : judge_of newer (follower_of kind word) ≡ Good next
+  pub first : judge_of older kind ≡ Ok word
+  pub second : judge_of newer (follower_of kind word) ≡ Ok next
 
 -- what reads as a kind is good as that kind
-read-judge : (n w : ℕ) (kind : Kind) → read_of n ≡ Block w kind → judge_of n kind ≡ Good w
+read-judge : (n w : ℕ) (kind : Kind) → read_of n ≡ found w kind → judge_of n kind ≡ Ok w
 read-judge n w kind e =
-    let f = found-valid n w kind e in judge-valid n kind f.0 f.1 ∙ ap (λ (v : ℕ). Good v) f.2
+    let f = found-valid n w kind e in judge-valid n kind f.0 f.1 ∙ ap (λ (v : ℕ). Ok v) f.2
 
-pub lock-pair : (older newer : ℕ) (kind : Kind) (word next : ℕ) → lock_of older newer ≡ At kind word next
+-- a lock by its parts
+abbrev lock : Kind → ℕ → ℕ → Lock
+lock kind older newer = record { kind = kind; older = older; newer = newer }
+
+pub lock-pair : (older newer : ℕ) (kind : Kind) (word next : ℕ) → lock_of older newer ≡ locking kind word next
     → Pair older newer kind word next
 unfolding lock_of
-lock-pair older newer kind word next e = found (read_of older) refl e
+lock-pair older newer kind word next e = by (read_of older) refl e
   where
-    judged : (k : Kind) (w : ℕ) (j : Judged) → read_of older ≡ Block w k → judge_of newer (follower_of k w) ≡ j
-        → joined_of k w j ≡ At kind word next → Pair older newer kind word next
-    judged k w (Good n) f g l =
-        let same_kind : k ≡ kind = cc in
-        let same_word : w ≡ word = cc in
-        let same_next : n ≡ next = cc in
+    judged : (k : Kind) (w : ℕ) (j : Judged) → read_of older ≡ found w k → judge_of newer (follower_of k w) ≡ j
+        → joined_of k w j ≡ locking kind word next → Pair older newer kind word next
+    judged k w (Ok n) f g l =
+        let same : lock k w n ≡ lock kind word next = cc in
+        let same_kind : k ≡ kind = ap (λ (lock : Lock). lock.kind) same in
+        let same_word : w ≡ word = ap (λ (lock : Lock). lock.older) same in
+        let same_next : n ≡ next = ap (λ (lock : Lock). lock.newer) same in
         rw (← same_kind, ← same_word, ← same_next) (record { first = read-judge older w k f; second = g })
-    judged k w Bad f g l = let z : ◌≡◌ {A = ℕ} 0 1 = cc in absurd (omega arith)
-    judged k w Refused f g l = let z : ◌≡◌ {A = ℕ} 0 1 = cc in absurd (omega arith)
+    judged k w (Err error) f g l = let z : ◌≡◌ {A = ℕ} 0 1 = cc in absurd (omega arith)
 
-    found : (f : Found) → read_of older ≡ f → pair_of f newer ≡ At kind word next → Pair older newer kind word next
-    found (Block w k) f l = judged k w (judge_of newer (follower_of k w)) f refl l
-    found Nothing f l = let z : ◌≡◌ {A = ℕ} 0 1 = cc in absurd (omega arith)
-    found TooLong f l = let z : ◌≡◌ {A = ℕ} 0 1 = cc in absurd (omega arith)
+    by : (f : Found) → read_of older ≡ f → pair_of f newer ≡ locking kind word next → Pair older newer kind word next
+    by (Ok (Some b)) f l = judged b.kind b.word (judge_of newer (follower_of b.kind b.word)) f refl l
+    by (Ok None) f l = let z : ◌≡◌ {A = ℕ} 0 1 = cc in absurd (omega arith)
+    by (Err too_long) f l = let z : ◌≡◌ {A = ℕ} 0 1 = cc in absurd (omega arith)
 
 -- ---- the state after a lock: two blocks have come
 
@@ -99,19 +99,19 @@ module _ (bits : List ℕ) (all : Bits (listed bits)) where
   silent-agrees count e = record { holds = record { is = rw e; all = all }; answer = refl; group = refl }
 
   -- the last 52 are tried
-  tried-agrees : 52 ≤ length bits → (lock : Lock)
+  tried-agrees : 52 ≤ length bits → (lock : Option Lock)
       → lock_of (block_of (last_pair bits) 0) (block_of (last_pair bits) 1) ≡ lock
       → Agrees (tried_of (spelled bits % 2 ^ 52) lock) (tried_on bits lock)
-  tried-agrees h (At kind word next) e =
+  tried-agrees h (Some lock) e =
       record {
         holds = locked_follows (last_pair bits)
             (λ i. rw (get_or-drop (length bits - 52) bits i 0) (all (length bits - 52 + i)))
-            (rw (length-drop (length bits - 52) bits) (omega arith)) kind word next
-            (lock-pair (block_of (last_pair bits) 0) (block_of (last_pair bits) 1) kind word next e);
+            (rw (length-drop (length bits - 52) bits) (omega arith)) lock.kind lock.older lock.newer
+            (lock-pair (block_of (last_pair bits) 0) (block_of (last_pair bits) 1) lock.kind lock.older lock.newer e);
         answer = refl;
         group = refl;
       }
-  tried-agrees h No e = silent-agrees 52 (omega arith)
+  tried-agrees h None e = silent-agrees 52 (omega arith)
 
 pub hunt_agrees : (bits : List ℕ) (bit : ℕ) → Bits (listed bits) → bit < 2
     → Agrees (hunt_of (spelled bits % 2 ^ 52) (min (length bits) 52) bit) (hunted_on (bits ++ bit ∷ []))

@@ -16,9 +16,8 @@ use Rattle.blocks.specs.declared.Kind.{Kind}
 use Rattle.blocks.specs.declared.Kind.TheVariants.{A, B}
 use Rattle.blocks.proofs.Reading.{read-valid, judge-valid}
 use Rattle.groups.specs.Group.{empty_of}
-use Rattle.receiver.specs.declared.Lock.TheVariants.{At}
 use Rattle.receiver.specs.declared.Answer.TheVariants as answer
-use Rattle.receiver.specs.Rules.{pair_bits, follower_of, lock_of}
+use Rattle.receiver.specs.Rules.{pair_bits, follower_of, locking, lock_of}
 use Rattle.receiver.specs.Machine.{fresh_of, step_of, fed_of}
 use Rattle.history.specs.Locked.{block_of}
 use Rattle.history.specs.Heard.{Heard, hunting, locked, silent_in, hunted_on, heard_in, phase_after, heard}
@@ -29,14 +28,14 @@ use Rattle.history.proofs.Feeding.{length_from, take_from, spell-fed, spell_few,
 
 -- two blocks that follow each other lock
 pub lock-valid : (older newer : ℕ) (kind : Kind) → older < limit → newer < limit → Valid kind older
-    → Valid (follower_of kind (word_of older)) newer → lock_of older newer ≡ At kind (word_of older) (word_of newer)
+    → Valid (follower_of kind (word_of older)) newer → lock_of older newer ≡ locking kind (word_of older) (word_of newer)
 unfolding lock_of
 lock-valid older newer kind h l v w =
     rw (read-valid older kind h v, judge-valid newer (follower_of kind (word_of older)) l w)
 
 -- the first 52 bits, where they lock
 pair-locked : (bits : List ℕ) (kind : Kind) (word next : ℕ) → length bits ≡ 52
-    → lock_of (block_of bits 0) (block_of bits 1) ≡ At kind word next
+    → lock_of (block_of bits 0) (block_of bits 1) ≡ locking kind word next
     → hunted_on bits ≡ record { phase = locked kind bits; answer = answer.Locked; group = empty_of }
 unfolding hunted_on
 pair-locked bits kind word next long e =
@@ -65,7 +64,7 @@ module _ (f : ℕ → ℕ) (i : ℕ) (small : (j : ℕ) → j < 52 → f (i + j)
       ∙ rw (hunting_after n (omega arith), hunts_on n (omega arith))
 
   -- the 52nd bit, where the pair locks
-  pub locks_on : (kind : Kind) (word next : ℕ) → lock_of (spell f i 26) (spell f (i + 26) 26) ≡ At kind word next
+  pub locks_on : (kind : Kind) (word next : ℕ) → lock_of (spell f i 26) (spell f (i + 26) 26) ≡ locking kind word next
       → heard_in (hunting (bits_from f i 51)) (f (i + 51))
       ≡ record { phase = locked kind (bits_from f i 52); answer = answer.Locked; group = empty_of }
   locks_on kind word next e =
@@ -81,7 +80,7 @@ module _ (bits : List ℕ) (long : pair_bits ≤ length bits) (small : (i : ℕ)
 
   -- they lock
   pair-locks : Valid A (block_of bits 0) → Valid B (block_of bits 1)
-      → lock_of (block_of bits 0) (block_of bits 1) ≡ At A (word_of (block_of bits 0)) (word_of (block_of bits 1))
+      → lock_of (block_of bits 0) (block_of bits 1) ≡ locking A (word_of (block_of bits 0)) (word_of (block_of bits 1))
   pair-locks first second =
       lock-valid (block_of bits 0) (block_of bits 1) A
       (spell_few (listed bits) 0 26 (λ j _ l. small j (omega arith)))

@@ -6,11 +6,10 @@ use mathlib.Core.Bool.{Bool, true, false, cond, ◌&&◌}
 use native.Mathlib.Numerals.{add-one}
 use native.Mathlib.Omega.{arith}
 use lib.Dec.{eqb, leb, leb-zero, leb-suc-suc}
-use Rattle.blocks.specs.Block.{judge_of}
+use Rattle.blocks.specs.Block.{Judged, judge_of}
 use Rattle.blocks.specs.declared.Kind.{Kind}
 use Rattle.blocks.specs.declared.Kind.TheVariants.{A, B, C, CPrime, D}
-use Rattle.blocks.specs.declared.Judged.{Judged}
-use Rattle.blocks.specs.declared.Judged.TheVariants.{Good, Bad, Refused}
+use Rattle.std.specs.Prelude.{Ok, Err}
 use Rattle.groups.specs.declared.Group.{Group}
 use Rattle.groups.specs.Group.{empty_of}
 use Rattle.groups.specs.Header.{version_of, third_kind}
@@ -39,9 +38,8 @@ third-kind P c c' word2 = told (eqb (version_of word2) 0)
     told false = c'
 
 third-place : (P : Place → Type 0) → P ThirdC → P ThirdCPrime → P ThirdBad → (second : Judged) → P (third_place_of second)
-third-place P c c' bad (Good word2) = third-kind (λ kind. P (place_of kind)) c c' word2
-third-place P c c' bad Bad = bad
-third-place P c c' bad Refused = bad
+third-place P c c' bad (Ok word2) = third-kind (λ kind. P (place_of kind)) c c' word2
+third-place P c c' bad (Err error) = bad
 
 -- ---- the tables
 
@@ -67,9 +65,8 @@ judge-kind CPrime n = refl
 judge-kind D n = refl
 
 judge_third : (second : Judged) (n : ℕ) → judge_at_of (third_place_of second) n ≡ third_of second n
-judge_third (Good word2) n = judge-kind (third_kind word2) n
-judge_third Bad n = refl
-judge_third Refused n = refl
+judge_third (Ok word2) n = judge-kind (third_kind word2) n
+judge_third (Err error) n = refl
 
 pub place-judge : (p : ℕ) (second : Judged) (n : ℕ) → judge_at_of (place_for p second) n ≡ judged_at p second n
 place-judge zero second n = refl

@@ -14,18 +14,16 @@ use borrow.Author.Tests.{lt-ltb, le-ltb, eq-eqb, ne_eqb, eqb-true, le-leb, lt-le
 use Rattle.bits.specs.Spell.{Bits}
 use Rattle.bits.proofs.Order.{lt-or-le}
 use Rattle.bits.proofs.Spelling.{spell_lt}
-use Rattle.blocks.specs.Block.{judge_of, word_of, limit, Valid}
+use Rattle.blocks.specs.Block.{Judged, judge_of, word_of, limit, Valid}
 use Rattle.blocks.specs.Damage.{block_bits}
 use Rattle.blocks.specs.declared.Kind.{Kind}
 use Rattle.blocks.specs.declared.Kind.TheVariants.{A, B, D}
-use Rattle.blocks.specs.declared.Judged.{Judged}
-use Rattle.blocks.specs.declared.Judged.TheVariants.{Good}
+use Rattle.std.specs.Prelude.{Ok}
 use Rattle.blocks.proofs.Reading.{judge-valid}
 use Rattle.groups.specs.Group.{empty_of}
 use Rattle.groups.specs.Header.{third_kind, expected_of}
-use Rattle.receiver.specs.declared.Lock.TheVariants.{At}
 use Rattle.receiver.specs.declared.Answer.TheVariants as answer
-use Rattle.receiver.specs.Rules.{follower_of, lock_of, judged_at, loses_of, say_of}
+use Rattle.receiver.specs.Rules.{follower_of, locking, lock_of, judged_at, loses_of, say_of}
 use Rattle.receiver.specs.Machine.{fresh_of, step_of, fed_of}
 use Rattle.history.specs.Locked.{place_of, place_at, second_before, judged_in, group_from, completes_at, bads_from}
 use Rattle.history.specs.Locked.{loses_at}
@@ -58,7 +56,7 @@ follower-expected (suc (suc (suc (suc p)))) word2 word next h same = absurd (ome
 
 -- a block that is valid as its place expects is good there, a third one after its good second
 good-at : (p word2 n : ℕ) (second : Judged) → p < 4 → n < limit → Valid (expected_of p word2) n
-    → (p ≡ 2 → second ≡ Good word2) → judged_at p second n ≡ Good (word_of n)
+    → (p ≡ 2 → second ≡ Ok word2) → judged_at p second n ≡ Ok (word_of n)
 good-at zero word2 n second h l v after = judge-valid n A l v
 good-at (suc zero) word2 n second h l v after = judge-valid n B l v
 good-at (suc (suc zero)) word2 n second h l v after = rw (after refl) (judge-valid n (third_kind word2) l v)
@@ -71,7 +69,7 @@ second_word_lem f j e =
     let this : j ≡ 4 * ((j + 1) / 4) + 1 = omega arith in ap (λ (i : ℕ). sent_word f i) this
 
 -- good blocks are none of them bad
-none_bad : (judged : ℕ → Judged) (words : ℕ → ℕ) (k n : ℕ) → ((i : ℕ) → k ≤ i → i < k + n → judged i ≡ Good (words i))
+none_bad : (judged : ℕ → Judged) (words : ℕ → ℕ) (k n : ℕ) → ((i : ℕ) → k ≤ i → i < k + n → judged i ≡ Ok (words i))
     → bads_from judged k n ≡ 0
 unfolding bads_from
 none_bad judged words k zero good = refl
@@ -116,33 +114,33 @@ module _ (f : ℕ → ℕ) (bits : Bits f) (s n : ℕ) (valid : ValidBlocks f s 
       (omega arith) (second_word_lem f s)
       ∙ ap (λ (p : ℕ). expected_of p (second_word f (s + 1))) next
 
-  first-lock : 2 ≤ n → lock_of (sent_block f s) (sent_block f (s + 1)) ≡ At kind (sent_word f s) (sent_word f (s + 1))
+  first-lock : 2 ≤ n → lock_of (sent_block f s) (sent_block f (s + 1)) ≡ locking kind (sent_word f s) (sent_word f (s + 1))
   first-lock h =
       lock-valid (sent_block f s) (sent_block f (s + 1)) kind (short s) (short (s + 1))
       (valid s (omega arith) (omega arith)) (rw follower-sent (valid (s + 1) (omega arith) (omega arith)))
 
   -- ---- each block is good, but for a third one that came first
 
-  second-good : (j : ℕ) → s ≤ j → j < s + n → j % 4 ≡ 1 → judge_of (sent_block f j) B ≡ Good (sent_word f j)
+  second-good : (j : ℕ) → s ≤ j → j < s + n → j % 4 ≡ 1 → judge_of (sent_block f j) B ≡ Ok (sent_word f j)
   second-good j p q e =
       let second : sent_kind f j ≡ B = ap (λ (place : ℕ). expected_of place (second_word f j)) e in
       judge-valid (sent_block f j) B (short j) (subst (λ (k : Kind). Valid k (sent_block f j)) second (valid j p q))
 
   judged-good : (k i : ℕ) → i < n → 26 * i + 26 ≤ k → ((s + i) % 4 ≡ 2 → 1 ≤ i)
-      → judged_in kind (fed k) i ≡ Good (sent_word f (s + i))
+      → judged_in kind (fed k) i ≡ Ok (sent_word f (s + i))
   unfolding judged_in
   judged-good k i h whole after =
       rw (place-sent i, block-fed f s k i whole)
       (good-at ((s + i) % 4) (second_word f (s + i)) (sent_block f (s + i)) (second_before (fed k) i)
       (omega arith) (short (s + i)) (valid (s + i) (omega arith) (omega arith)) second)
     where
-      second : (s + i) % 4 ≡ 2 → second_before (fed k) i ≡ Good (second_word f (s + i))
+      second : (s + i) % 4 ≡ 2 → second_before (fed k) i ≡ Ok (second_word f (s + i))
       second e =
           let past : 1 ≤ i = after e in
           let this : s + (i - 1) + 1 ≡ s + i = omega arith in
           let good = second-good (s + (i - 1)) (omega arith) (omega arith) (omega arith) in
           rw (block-fed f s k (i - 1) (omega arith), good)
-          (ap (λ (w : ℕ). Good w) (rw this at (second_word_lem f (s + (i - 1)) (omega arith))))
+          (ap (λ (w : ℕ). Ok w) (rw this at (second_word_lem f (s + (i - 1)) (omega arith))))
 
   -- ---- a block's end
 
@@ -172,17 +170,17 @@ module _ (f : ℕ → ℕ) (bits : Bits f) (s n : ℕ) (valid : ValidBlocks f s 
   group-sent k m whole within last four =
       rw (first, later 1 (omega arith), later 2 (omega arith), later 3 (omega arith))
     where
-      first : judged_in kind (fed k) (m - 4) ≡ Good (sent_word f (s + m - 4))
+      first : judged_in kind (fed k) (m - 4) ≡ Ok (sent_word f (s + m - 4))
       first =
           let this : s + (m - 4) ≡ s + m - 4 = omega arith in
           judged-good k (m - 4) (omega arith) (omega arith) (λ e. omega arith)
-          ∙ ap (λ (j : ℕ). Good (sent_word f j)) this
+          ∙ ap (λ (j : ℕ). Ok (sent_word f j)) this
 
-      later : (c : ℕ) → c < 4 → judged_in kind (fed k) (m - 4 + c) ≡ Good (sent_word f (s + m - 4 + c))
+      later : (c : ℕ) → c < 4 → judged_in kind (fed k) (m - 4 + c) ≡ Ok (sent_word f (s + m - 4 + c))
       later c h =
           let this : s + (m - 4 + c) ≡ s + m - 4 + c = omega arith in
           judged-good k (m - 4 + c) (omega arith) (omega arith) (λ e. omega arith)
-          ∙ ap (λ (j : ℕ). Good (sent_word f j)) this
+          ∙ ap (λ (j : ℕ). Ok (sent_word f j)) this
 
   -- ---- a bit after the pair
 

@@ -5,7 +5,7 @@ use Rattle.blocks.specs.declared.Kind.{Kind}
 use Rattle.groups.specs.declared.Group.{Group}
 use Rattle.groups.specs.Group.{empty_of}
 use Rattle.receiver.specs.declared.Lock.{Lock}
-use Rattle.receiver.specs.declared.Lock.TheVariants.{At, No}
+use Rattle.std.specs.Prelude.{Option, Some, None}
 use Rattle.receiver.specs.declared.Answer.{Answer}
 use Rattle.receiver.specs.declared.Answer.TheVariants as answer
 use Rattle.receiver.specs.Rules.{pair_bits, lock_of, say_of}
@@ -36,10 +36,10 @@ abbrev pub last_pair : List ℕ → List ℕ
 last_pair bits = drop (length bits - pair_bits) bits
 
 -- they were tried; where they lock, they are the pair
-abbrev pub tried_on : List ℕ → Lock → Heard
-tried_on bits (At kind older newer) =
-    record { phase = locked kind (last_pair bits); answer = answer.Locked; group = empty_of }
-tried_on bits No = silent_in (hunting bits)
+abbrev pub tried_on : List ℕ → Option Lock → Heard
+tried_on bits (Some lock) =
+    record { phase = locked lock.kind (last_pair bits); answer = answer.Locked; group = empty_of }
+tried_on bits None = silent_in (hunting bits)
 
 -- 52 bits have come since hunting began
 abbrev pub enough : List ℕ → Bool

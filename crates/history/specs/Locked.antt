@@ -2,11 +2,10 @@
 -- groups; runs. The bits are those of the pair and all that came since.
 use Rattle.std.specs.Prelude.{ℕ, zero, suc, ◌+◌, ◌*◌, ◌-◌, ◌%◌, List, [], ◌∷◌, Bool, cond, ◌&&◌, eqb, leb}
 use Rattle.bits.specs.Spell.{spell, listed}
-use Rattle.blocks.specs.Block.{judge_of}
+use Rattle.blocks.specs.Block.{Judged, judge_of}
 use Rattle.blocks.specs.Damage.{block_bits}
 use Rattle.blocks.specs.declared.Kind.{Kind}
 use Rattle.blocks.specs.declared.Kind.TheVariants.{A, B, C, CPrime, D}
-use Rattle.blocks.specs.declared.Judged.{Judged}
 use Rattle.groups.specs.declared.Group.{Group}
 use Rattle.groups.specs.Group.{places, judged_word, judged_good}
 use Rattle.receiver.specs.Rules.{run_blocks, judged_at, is_bad_of, loses_of}

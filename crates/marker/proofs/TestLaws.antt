@@ -7,9 +7,9 @@ use native.Mathlib.Omega.{arith}
 use lib.Dec.{eqb}
 use borrow.Author.Tests.{not-false}
 use Rattle.blocks.specs.declared.Kind.{Kind}
-use Rattle.blocks.specs.declared.Judged.{Judged}
-use Rattle.blocks.specs.declared.Judged.TheVariants.{Good, Bad, Refused}
-use Rattle.blocks.specs.Block.{valid, word_of, judge_of}
+use Rattle.std.specs.Prelude.{Ok, Err, is_err}
+use Rattle.blocks.specs.declared.BlockError.TheVariants.{Bad, TooLong}
+use Rattle.blocks.specs.Block.{Judged, valid, word_of, judge_of}
 use Rattle.blocks.proofs.Validity.{valid_true, true-valid, valid_false}
 use Rattle.blocks.proofs.Reading.{judge-valid, judge_bad, judged-valid, bad-valid}
 use Rattle.groups.specs.Header.{expected_of}
@@ -30,32 +30,41 @@ module _ (s : List ℕ) (j b w2 : ℕ) (k : Kind) (r : Judged) (word : w2 ≡ wo
   judged_at_lem : judge_of (block_in s j) (kind_at s j) ≡ r
   judged_at_lem = sym (judged ∙ rw (kind, word, block))
 
-  pub block_good : (w : ℕ) → r ≡ Good w → false ≡ block_wrong s j
+  block_good : (w : ℕ) → r ≡ Ok w → false ≡ block_wrong s j
   unfolding block_wrong
   block_good w e =
       let v : BlockRight s j = (judged-valid (block_in s j) w (kind_at s j) (judged_at_lem ∙ e)).1 in
       rw (valid_true (kind_at s j) (block_in s j) v)
 
-  pub block_bad : r ≡ Bad → true ≡ block_wrong s j
+  block_bad : r ≡ Err Bad → true ≡ block_wrong s j
   unfolding block_wrong
   block_bad e = rw (valid_false (kind_at s j) (block_in s j) (bad-valid (block_in s j) (kind_at s j) (judged_at_lem ∙ e)))
 
   -- a block of a submission has 26 bits, so that it is never refused
-  pub block_refused : r ≡ Refused → true ≡ block_wrong s j
+  block_refused : r ≡ Err TooLong → true ≡ block_wrong s j
   block_refused e = absurd (told (valid (kind_at s j) (block_in s j)) refl)
     where
       told : (b : Bool) → valid (kind_at s j) (block_in s j) ≡ b → ⊥
       told true t =
-          let g : judge_of (block_in s j) (kind_at s j) ≡ Good (word_of (block_in s j)) =
+          let g : judge_of (block_in s j) (kind_at s j) ≡ Ok (word_of (block_in s j)) =
           judge-valid (block_in s j) (kind_at s j) (block_in-lt s j) (true-valid (kind_at s j) (block_in s j) t) in
-          let h : r ≡ Good (word_of (block_in s j)) = sym judged_at_lem ∙ g in
+          let h : r ≡ Ok (word_of (block_in s j)) = sym judged_at_lem ∙ g in
           let z : ◌≡◌ {A = ℕ} 0 1 = cc in omega arith
       told false t =
-          let g : judge_of (block_in s j) (kind_at s j) ≡ Bad =
+          let g : judge_of (block_in s j) (kind_at s j) ≡ Err Bad =
           judge_bad (block_in s j) (kind_at s j) (block_in-lt s j)
           (λ v. true≢false (sym (valid_true (kind_at s j) (block_in s j) v) ∙ t)) in
-          let h : r ≡ Bad = sym judged_at_lem ∙ g in
+          let h : r ≡ Err Bad = sym judged_at_lem ∙ g in
           let z : ◌≡◌ {A = ℕ} 0 1 = cc in omega arith
+
+  -- it is wrong exactly where it is judged to be no good one
+  pub judged_wrong : is_err r ≡ block_wrong s j
+  judged_wrong = by r refl
+    where
+      by : (q : Judged) → r ≡ q → is_err q ≡ block_wrong s j
+      by (Ok w) e = block_good w e
+      by (Err Bad) e = block_bad e
+      by (Err TooLong) e = block_refused e
 
 -- ---- a 2A
 

@@ -4,7 +4,6 @@ ghost use Rattle.marker.specs.Tests.{block_wrong};
 ghost use Rattle.marker.specs.Mark.{first_bad_block};
 
 use crate::{GROUP, PLACES, reader};
-use blocks::Judged;
 
 // The first place of which a test says yes.
 #[derive(Clone, Copy)]
@@ -34,9 +33,5 @@ fn block_wrong(submission: &[u8], block: usize) -> bool
 {
     let word2 = reader::word_in(submission, PLACES * (block / PLACES) + 1);
     let kind = groups::expected(block % PLACES, word2);
-    match blocks::judge(reader::block_in(submission, block), kind) {
-        Judged::Good(_) => false,
-        Judged::Bad => true,
-        Judged::Refused => true,
-    }
+    blocks::judge(reader::block_in(submission, block), kind).is_err()
 }

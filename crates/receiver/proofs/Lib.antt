@@ -2,4 +2,5 @@
 pub mod Refusal
 pub mod Ends
 pub mod Feeds
+pub mod Same
 pub mod Quiet

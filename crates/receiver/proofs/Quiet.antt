@@ -11,7 +11,7 @@ use Rattle.blocks.specs.Damage.{block_bits}
 use Rattle.bits.specs.Bytes.{bit_at}
 use Rattle.bits.proofs.ByteBits.{bit_at_lt}
 use Rattle.receiver.specs.declared.Lock.{Lock}
-use Rattle.receiver.specs.declared.Lock.TheVariants.{At, No}
+use Rattle.std.specs.Prelude.{is_some, Option, Some, None}
 use Rattle.receiver.specs.declared.Receiver.{Receiver}
 use Rattle.receiver.specs.declared.Step.{Step}
 use Rattle.receiver.specs.Rules.{pair_bits, lock_of}
@@ -19,7 +19,7 @@ use Rattle.receiver.specs.Machine.{shift_of, newer_of, older_of, hunting_of, is_
 use Rattle.receiver.specs.Machine.{inside_of, follow_of, step_of}
 use Rattle.receiver.specs.Feeding.{byte_bits, stopped_of, advance_of}
 use Rattle.receiver.specs.Strides.{answering_of, window_limit, lock_after_of, count_after_of, hunted_of, lock_answer_of}
-use Rattle.receiver.specs.Strides.{is_lock_of, taken_in_of, then_of}
+use Rattle.receiver.specs.Strides.{taken_in_of, then_of}
 use Rattle.receiver.proofs.Feeds.{feed-one}
 
 -- ---- one step
@@ -28,10 +28,10 @@ use Rattle.receiver.proofs.Feeds.{feed-one}
 pub shift-limit : (window bit : ℕ) → bit < 2 → shift_of window bit < window_limit
 shift-limit window bit h = omega arith
 
-tried_parts : (window : ℕ) (lock : Lock)
+tried_parts : (window : ℕ) (lock : Option Lock)
     → tried_of window lock ≡ answering_of (hunted_of lock window pair_bits) (lock_answer_of lock)
-tried_parts window (At kind older newer) = refl
-tried_parts window No = refl
+tried_parts window (Some lock) = refl
+tried_parts window None = refl
 
 -- a hunting bit, from its parts
 pub hunt_parts : (window count bit : ℕ) → hunt_of window count bit
@@ -41,19 +41,19 @@ unfolding hunt_of lock_after_of count_after_of
 hunt_parts window count bit =
     by (ltb (count + 1) pair_bits) (lock_of (older_of (shift_of window bit)) (newer_of (shift_of window bit)))
   where
-    by : (test : Bool) (lock : Lock)
+    by : (test : Bool) (lock : Option Lock)
         → cond test (silent_of (hunting_of (shift_of window bit) (count + 1))) (tried_of (shift_of window bit) lock)
-        ≡ answering_of (hunted_of (cond test No lock) (shift_of window bit) (cond test (count + 1) pair_bits))
-        (lock_answer_of (cond test No lock))
+        ≡ answering_of (hunted_of (cond test None lock) (shift_of window bit) (cond test (count + 1) pair_bits))
+        (lock_answer_of (cond test None lock))
     by true lock = refl
     by false lock = tried_parts (shift_of window bit) lock
 
-no-lock : (lock : Lock) → is_lock_of lock ≡ false → lock ≡ No
-no-lock (At kind older newer) e = absurd (true≢false e)
-no-lock No e = refl
+no-lock : (lock : Option Lock) → is_some lock ≡ false → lock ≡ None
+no-lock (Some lock) e = absurd (true≢false e)
+no-lock None e = refl
 
 -- a hunting bit that locks nothing
-hunt-none : (window count bit : ℕ) → is_lock_of (lock_after_of (shift_of window bit) count) ≡ false
+hunt-none : (window count bit : ℕ) → is_some (lock_after_of (shift_of window bit) count) ≡ false
     → hunt_of window count bit ≡ silent_of (hunting_of (shift_of window bit) (count_after_of count))
 hunt-none window count bit e =
     hunt_parts window count bit ∙ rw (no-lock (lock_after_of (shift_of window bit) count) e)
@@ -80,7 +80,7 @@ module _ (s : List ℕ) (byte bit byte' bit' : ℕ) (h : byte < length s) (b : b
   quiet-bit r x q = feed-one r s byte bit byte' bit' h b e b' ∙ ap (λ (t : Step). then_of (stopped_of t byte' bit') s) q
 
   pub hunt_bit : (window count : ℕ)
-      → is_lock_of (lock_after_of (shift_of window (bit_at s (byte_bits * byte + bit))) count) ≡ false
+      → is_some (lock_after_of (shift_of window (bit_at s (byte_bits * byte + bit))) count) ≡ false
       → advance_of (hunting_of window count) s byte bit
       ≡ advance_of (hunting_of (shift_of window (bit_at s (byte_bits * byte + bit))) (count_after_of count)) s byte' bit'
   hunt_bit window count q =

@@ -10,7 +10,7 @@ use Rattle.blocks.specs.Damage.{block_bits}
 use Rattle.groups.specs.declared.Group.{Group}
 use Rattle.groups.specs.Group.{empty_of}
 use Rattle.receiver.specs.declared.Lock.{Lock}
-use Rattle.receiver.specs.declared.Lock.TheVariants.{At, No}
+use Rattle.std.specs.Prelude.{Option, Some, None}
 use Rattle.receiver.specs.declared.Receiver.{Receiver}
 use Rattle.receiver.specs.declared.Step.{Step}
 use Rattle.receiver.specs.declared.Answer.TheVariants as answer
@@ -27,9 +27,9 @@ say-number false true = refl
 say-number true false = refl
 say-number true true = refl
 
-tried-number : (window : ℕ) (lock : Lock) → answer_number (tried_of window lock).answer ≡ 0
-tried-number window (At kind older newer) = refl
-tried-number window No = refl
+tried-number : (window : ℕ) (lock : Option Lock) → answer_number (tried_of window lock).answer ≡ 0
+tried-number window (Some lock) = refl
+tried-number window None = refl
 
 -- of two steps that refuse nothing either refuses nothing
 either_number : (test : Bool) (s t : Step) → answer_number s.answer ≡ 0 → answer_number t.answer ≡ 0
@@ -95,9 +95,9 @@ either-group : (test : Bool) (s t : Step) → (brings_group s.answer ≡ false �
 either-group true s t p q = p
 either-group false s t p q = q
 
-tried-group : (window : ℕ) (lock : Lock) → (tried_of window lock).group ≡ empty_of
-tried-group window (At kind older newer) = refl
-tried-group window No = refl
+tried-group : (window : ℕ) (lock : Option Lock) → (tried_of window lock).group ≡ empty_of
+tried-group window (Some lock) = refl
+tried-group window None = refl
 
 hunt-group : (window count bit : ℕ) → brings_group (hunt_of window count bit).answer ≡ false
     → (hunt_of window count bit).group ≡ empty_of

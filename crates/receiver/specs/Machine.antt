@@ -1,11 +1,11 @@
 -- The receiver as a machine: its fresh state, and what one bit makes of any state.
 use Rattle.std.specs.Prelude.{ℕ, ◌+◌, ◌*◌, ◌-◌, ◌/◌, ◌%◌, ◌^◌, List, [], ◌∷◌, Bool, true, false, cond, ltb}
-use Rattle.blocks.specs.Block.{judge_of}
+use Rattle.std.specs.Prelude.{Ok, Err, Option, Some, None}
+use Rattle.blocks.specs.Block.{Judged, judge_of}
 use Rattle.blocks.specs.Damage.{block_bits}
 use Rattle.blocks.specs.declared.Kind.{Kind}
 use Rattle.blocks.specs.declared.Kind.TheVariants.{A, B, C, CPrime, D}
-use Rattle.blocks.specs.declared.Judged.{Judged}
-use Rattle.blocks.specs.declared.Judged.TheVariants.{Good, Bad, Refused}
+use Rattle.blocks.specs.declared.BlockError.TheVariants.{Bad}
 use Rattle.groups.specs.declared.Group.{Group}
 use Rattle.groups.specs.Group.{empty_of, with_block_of}
 use Rattle.groups.specs.Header.{third_kind}
@@ -13,7 +13,6 @@ use Rattle.receiver.specs.declared.Place.{Place}
 use Rattle.receiver.specs.declared.Place.TheVariants.{Hunting, First, Second, Fourth}
 use Rattle.receiver.specs.declared.Place.TheVariants.{ThirdC, ThirdCPrime, ThirdBad}
 use Rattle.receiver.specs.declared.Lock.{Lock}
-use Rattle.receiver.specs.declared.Lock.TheVariants.{At, No}
 use Rattle.receiver.specs.declared.Answer.TheVariants as answer
 use Rattle.receiver.specs.declared.Run.{Run}
 use Rattle.receiver.specs.declared.Receiver.{Receiver}
@@ -59,18 +58,17 @@ place_of D = Fourth
 
 -- the place after the second: by its version, or bad after a bad second block
 abbrev pub third_place_of : Judged → Place
-third_place_of (Good word2) = place_of (third_kind word2)
-third_place_of Bad = ThirdBad
-third_place_of Refused = ThirdBad
+third_place_of (Ok word2) = place_of (third_kind word2)
+third_place_of (Err error) = ThirdBad
 
 -- after A,B the group in hand has two blocks; after D,A it has one; otherwise none is in hand until the next first place
 abbrev pub locked_of : Kind → ℕ → ℕ → Receiver
 locked_of A older newer =
-    begin_of (third_place_of (Good newer)) true (with_block_of (with_block_of empty_of 0 (Good older)) 1 (Good newer)) 0 0
+    begin_of (third_place_of (Ok newer)) true (with_block_of (with_block_of empty_of 0 (Ok older)) 1 (Ok newer)) 0 0
 locked_of B older newer = begin_of Fourth false empty_of 0 0
 locked_of C older newer = begin_of First true empty_of 0 0
 locked_of CPrime older newer = begin_of First true empty_of 0 0
-locked_of D older newer = begin_of Second true (with_block_of empty_of 0 (Good newer)) 0 0
+locked_of D older newer = begin_of Second true (with_block_of empty_of 0 (Ok newer)) 0 0
 
 -- ---- places
 
@@ -96,12 +94,12 @@ index_of Fourth = 3
 
 -- a block at its place: good exactly if valid as the expected kind; nothing is expected while hunting
 abbrev pub judge_at_of : Place → ℕ → Judged
-judge_at_of Hunting bits = Bad
+judge_at_of Hunting bits = Err Bad
 judge_at_of First bits = judge_of bits A
 judge_at_of Second bits = judge_of bits B
 judge_at_of ThirdC bits = judge_of bits C
 judge_at_of ThirdCPrime bits = judge_of bits CPrime
-judge_at_of ThirdBad bits = Bad
+judge_at_of ThirdBad bits = Err Bad
 judge_at_of Fourth bits = judge_of bits D
 
 -- the place after it
@@ -167,10 +165,10 @@ abbrev pub silent_of : Receiver → Step
 silent_of r = record { next = r; answer = answer.Nothing; group = empty_of }
 
 -- the last 52 bits were tried
-abbrev pub tried_of : ℕ → Lock → Step
-tried_of window (At kind older newer) =
-    record { next = locked_of kind older newer; answer = answer.Locked; group = empty_of }
-tried_of window No = silent_of (hunting_of window pair_bits)
+abbrev pub tried_of : ℕ → Option Lock → Step
+tried_of window (Some lock) =
+    record { next = locked_of lock.kind lock.older lock.newer; answer = answer.Locked; group = empty_of }
+tried_of window None = silent_of (hunting_of window pair_bits)
 
 -- a bit while hunting
 unfoldable pub hunt_of : ℕ → ℕ → ℕ → Step

@@ -1,16 +1,12 @@
 -- The receiver's small rules: what locks, how a block is judged at its place, when lock is lost, what is answered.
-use Rattle.std.specs.Prelude.{ℕ, zero, suc, Bool, true, false, not, ltb}
-use Rattle.blocks.specs.Block.{read_of, judge_of}
+use Rattle.std.specs.Prelude.{ℕ, zero, suc, Bool, true, false, not, ltb, Ok, Err, Option, Some, None}
+use Rattle.blocks.specs.Block.{Found, Judged, read_of, judge_of}
 use Rattle.blocks.specs.declared.Kind.{Kind}
 use Rattle.blocks.specs.declared.Kind.TheVariants.{A, B, C, CPrime, D}
-use Rattle.blocks.specs.declared.Found.{Found}
-use Rattle.blocks.specs.declared.Found.TheVariants.{Block, Nothing, TooLong}
-use Rattle.blocks.specs.declared.Judged.{Judged}
-use Rattle.blocks.specs.declared.Judged.TheVariants.{Good, Bad, Refused}
+use Rattle.blocks.specs.declared.BlockError.TheVariants as error
 use Rattle.groups.specs.Group.{judged_good}
 use Rattle.groups.specs.Header.{third_kind}
 use Rattle.receiver.specs.declared.Lock.{Lock}
-use Rattle.receiver.specs.declared.Lock.TheVariants.{At, No}
 use Rattle.receiver.specs.declared.Answer.{Answer}
 use Rattle.receiver.specs.declared.Answer.TheVariants as answer
 
@@ -38,29 +34,31 @@ follower_of C word = D
 follower_of CPrime word = D
 follower_of D word = A
 
+-- a lock on a block of this kind and word, and the word of the next
+abbrev pub locking : Kind → ℕ → ℕ → Option Lock
+locking kind older newer = Some (record { kind = kind; older = older; newer = newer })
+
 -- the kind and word of the older block, and how the newer was judged as its follower
-abbrev pub joined_of : Kind → ℕ → Judged → Lock
-joined_of kind older (Good newer) = At kind older newer
-joined_of kind older Bad = No
-joined_of kind older Refused = No
+abbrev pub joined_of : Kind → ℕ → Judged → Option Lock
+joined_of kind older (Ok newer) = locking kind older newer
+joined_of kind older (Err error) = None
 
 -- what the older 26 bits were found to be, and the newer 26
-abbrev pub pair_of : Found → ℕ → Lock
-pair_of (Block word kind) newer = joined_of kind word (judge_of newer (follower_of kind word))
-pair_of Nothing newer = No
-pair_of TooLong newer = No
+abbrev pub pair_of : Found → ℕ → Option Lock
+pair_of (Ok (Some block)) newer = joined_of block.kind block.word (judge_of newer (follower_of block.kind block.word))
+pair_of (Ok None) newer = None
+pair_of (Err too_long) newer = None
 
 -- lock is taken when the older 26 are valid as X and the newer 26 as X's follower
-unfoldable pub lock_of : ℕ → ℕ → Lock
+unfoldable pub lock_of : ℕ → ℕ → Option Lock
 lock_of older newer = pair_of (read_of older) newer
 
 -- ---- locked
 
 -- the third block goes by how the second was judged: its version, and after a bad second block the third is bad
 abbrev pub third_of : Judged → ℕ → Judged
-third_of (Good word2) bits = judge_of bits (third_kind word2)
-third_of Bad bits = Bad
-third_of Refused bits = Bad
+third_of (Ok word2) bits = judge_of bits (third_kind word2)
+third_of (Err why) bits = Err error.Bad
 
 -- a block at place i of its group: good exactly if valid as the expected kind; `second` is how the second was judged
 abbrev pub judged_at : ℕ → Judged → ℕ → Judged

@@ -1,11 +1,10 @@
 -- What the functions inside promise each other; a reader of the public promises needs none of it.
-use Rattle.std.specs.Prelude.{ℕ, ◌+◌, ◌*◌, ◌^◌, ◌<◌, ◌≤◌, ◌≡◌, List, Bool, true, false, cond, ltb}
+use Rattle.std.specs.Prelude.{ℕ, ◌+◌, ◌*◌, ◌^◌, ◌<◌, ◌≤◌, ◌≡◌, List, false, cond, ltb, Option, Some, None}
 use Rattle.groups.specs.Group.{empty_of}
 use Rattle.receiver.specs.declared.Answer.{Answer}
 use Rattle.receiver.specs.declared.Answer.TheVariants.{Nothing, Locked}
 use Rattle.receiver.specs.declared.Step.{Step}
 use Rattle.receiver.specs.declared.Lock.{Lock}
-use Rattle.receiver.specs.declared.Lock.TheVariants.{At, No}
 use Rattle.receiver.specs.declared.Receiver.{Receiver}
 use Rattle.receiver.specs.declared.Advanced.{Advanced}
 use Rattle.receiver.specs.declared.Filled.{Filled}
@@ -32,26 +31,21 @@ abbrev pub window_limit : ℕ
 window_limit = 2 ^ pair_bits
 
 -- hunting: whether the last bits lock, where there were `count` before the last of them
-unfoldable pub lock_after_of : ℕ → ℕ → Lock
-lock_after_of window count = cond (ltb (count + 1) pair_bits) No (lock_of (older_of window) (newer_of window))
+unfoldable pub lock_after_of : ℕ → ℕ → Option Lock
+lock_after_of window count = cond (ltb (count + 1) pair_bits) None (lock_of (older_of window) (newer_of window))
 
 -- and how many there are then
 unfoldable pub count_after_of : ℕ → ℕ
 count_after_of count = cond (ltb (count + 1) pair_bits) (count + 1) pair_bits
 
 -- the state where the last bits were tried, and what is answered then
-abbrev pub hunted_of : Lock → ℕ → ℕ → Receiver
-hunted_of (At kind older newer) window count = locked_of kind older newer
-hunted_of No window count = hunting_of window count
+abbrev pub hunted_of : Option Lock → ℕ → ℕ → Receiver
+hunted_of (Some lock) window count = locked_of lock.kind lock.older lock.newer
+hunted_of None window count = hunting_of window count
 
-abbrev pub lock_answer_of : Lock → Answer
-lock_answer_of (At kind older newer) = Locked
-lock_answer_of No = Nothing
-
--- two blocks lock
-abbrev pub is_lock_of : Lock → Bool
-is_lock_of (At kind older newer) = true
-is_lock_of No = false
+abbrev pub lock_answer_of : Option Lock → Answer
+lock_answer_of (Some lock) = Locked
+lock_answer_of None = Nothing
 
 -- a state with other bits: hunting, it has nothing else
 unfoldable pub taken_in_of : Receiver → ℕ → ℕ → Receiver

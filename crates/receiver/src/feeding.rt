@@ -3,28 +3,14 @@
 ghost use Rattle.std.specs.Prelude.{◌≡◌, ◌+◌, ◌*◌, ◌<◌, length};
 ghost use Rattle.bits.specs.Bytes.{bit_at};
 ghost use Rattle.receiver.specs.Answers.{answer_number};
-ghost use Rattle.receiver.specs.Feeding.{byte_bits, is_nothing_of, stopped_of, advance_of};
+ghost use Rattle.receiver.specs.Feeding.{byte_bits, stopped_of, advance_of};
 ghost use Rattle.receiver.specs.Machine.{silent_of};
-ghost use Rattle.receiver.specs.Strides.{is_lock_of, taken_in_of, Onward, Heard, Filling, Taken};
+ghost use Rattle.receiver.specs.Strides.{taken_in_of, Onward, Heard, Filling, Taken};
 
-use crate::{Advanced, Answer, Filled, Lock, Receiver, Spot, Step};
+use crate::{Advanced, Answer, Filled, Place, Receiver, Spot, Step};
 
 // The bits of a byte.
 const BYTE_BITS: u8 = 8;
-
-// The answer nothing.
-fn is_nothing(answer: Answer) -> bool
-    ensures { result ≡ is_nothing_of answer }
-{
-    match answer {
-        Answer::Nothing => true,
-        Answer::Locked => false,
-        Answer::Group => false,
-        Answer::Lost => false,
-        Answer::GroupAndLost => false,
-        Answer::Refused => false,
-    }
-}
 
 // The place of the bit after this one.
 fn onward(byte: usize, bit: u8, bytes: &[u8]) -> Spot
@@ -72,16 +58,6 @@ fn resting(receiver: Receiver, byte: usize, bit: u8) -> Advanced
     stopped(crate::answering(receiver, Answer::Nothing), byte, bit)
 }
 
-// Two blocks lock.
-fn is_lock(lock: Lock) -> bool
-    ensures { result ≡ is_lock_of lock }
-{
-    match lock {
-        Lock::At(_, _, _) => true,
-        Lock::No => false,
-    }
-}
-
 // Hunting, takes in the bits from a place on, up to one that locks or the end of the bytes.
 fn hunt_on(window: u64, count: u8, bytes: &[u8], byte: usize, bit: u8) -> Filled
     requires { (byte < length bytes.now) × (bit < byte_bits) }
@@ -93,7 +69,7 @@ fn hunt_on(window: u64, count: u8, bytes: &[u8], byte: usize, bit: u8) -> Filled
     let mut inside = bit;
     while at < bytes.len() {
         let moved = crate::shifted(last, bit_of(bytes, at, inside));
-        if is_lock(crate::lock_after(moved, many)) {
+        if crate::lock_after(moved, many).is_some() {
             break;
         }
         let spot = onward(at, inside, bytes);
@@ -151,8 +127,7 @@ fn fed(receiver: Receiver, bytes: &[u8], byte: usize, bit: u8) -> Advanced
 fn taken_in(receiver: Receiver, filled: Filled) -> Receiver
     ensures { result ≡ taken_in_of receiver filled.window filled.count }
 {
-    let place = receiver.place;
-    if crate::is_hunting(place) {
+    if receiver.place == Place::Hunting {
         return crate::hunting(filled.window, filled.count);
     }
     let mut next = receiver;
@@ -166,8 +141,7 @@ fn run_on(receiver: Receiver, bytes: &[u8], byte: usize, bit: u8) -> Filled
     requires { (byte < length bytes.now) × (bit < byte_bits) }
     ensures { Taken receiver bytes.now byte bit result }
 {
-    let place = receiver.place;
-    if crate::is_hunting(place) {
+    if receiver.place == Place::Hunting {
         hunt_on(receiver.window, receiver.count, bytes, byte, bit)
     } else {
         fill(receiver.window, receiver.count, bytes, byte, bit)
@@ -203,14 +177,12 @@ impl Receiver {
         let mut inside = bit;
         while at < bytes.len() {
             let taken = some_fed(next, bytes, at, inside);
-            let answer = taken.answer;
-            if is_nothing(answer) {
-                next = taken.next;
-                at = taken.byte;
-                inside = taken.bit;
-            } else {
+            if taken.answer != Answer::Nothing {
                 return taken;
             }
+            next = taken.next;
+            at = taken.byte;
+            inside = taken.bit;
         }
         resting(next, at, inside)
     }

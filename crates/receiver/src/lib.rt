@@ -4,20 +4,20 @@
 #![tactic(auto)]
 
 ghost use Rattle.std.specs.Prelude.{◌≡◌, cond, ◌<◌};
-ghost use Rattle.receiver.specs.Rules.{follower_of, joined_of, lock_of, is_bad_of, say_of};
+ghost use Rattle.receiver.specs.Rules.{follower_of, lock_of, say_of};
 ghost use Rattle.receiver.specs.Answers.{answer_number, bit_number};
 ghost use Rattle.receiver.specs.Machine.{shift_of, fresh_of, hunting_of, begin_of, place_of, third_place_of, locked_of};
-ghost use Rattle.receiver.specs.Machine.{is_hunting_of, index_of, judge_at_of, after_of, given_of, bad_with_of, counted_of};
+ghost use Rattle.receiver.specs.Machine.{index_of, judge_at_of, after_of, given_of, bad_with_of, counted_of};
 ghost use Rattle.receiver.specs.Machine.{hunt_of, end_of, follow_of, step_of};
 ghost use Rattle.receiver.specs.Strides.{answering_of, window_limit, lock_after_of, count_after_of, hunted_of, lock_answer_of};
 
-use blocks::{Found, Judged, Kind};
+use blocks::{BlockError, Judged, Kind};
 use groups::Group;
 
 mod feeding;
 
 // Hunting; or locked, with the place of the block that is coming and the kind that a third one must have.
-#[derive(Clone, Copy)]
+#[derive(Clone, Copy, PartialEq, Eq)]
 pub enum Place {
     Hunting,
     First,
@@ -29,7 +29,7 @@ pub enum Place {
 }
 
 // What a bit is answered.
-#[derive(Clone, Copy)]
+#[derive(Clone, Copy, PartialEq, Eq)]
 pub enum Answer {
     Nothing,
     Locked,
@@ -39,11 +39,12 @@ pub enum Answer {
     Refused,
 }
 
-// Whether two blocks lock: the kind and word of the older, and the word of the newer.
+// Two blocks that lock: the kind and word of the older, and the word of the newer.
 #[derive(Clone, Copy)]
-pub enum Lock {
-    At(Kind, u16, u16),
-    No,
+pub struct Lock {
+    pub kind: Kind,
+    pub older: u16,
+    pub newer: u16,
 }
 
 // A run of blocks: how many have come, how many of them were bad, and whether lock is lost with it.
@@ -136,27 +137,21 @@ fn follower(kind: Kind, word: u16) -> Kind
     }
 }
 
-// The older block, and how the newer was judged as its follower.
-fn joined(kind: Kind, older: u16, judged: Judged) -> Lock
-    ensures { result ≡ joined_of kind older judged }
-{
-    match judged {
-        Judged::Good(newer) => Lock::At(kind, older, newer),
-        Judged::Bad => Lock::No,
-        Judged::Refused => Lock::No,
-    }
-}
-
 // Lock is taken when the older 26 bits are valid as X and the newer 26 as X's follower.
-fn try_lock(older: u32, newer: u32) -> Lock
+fn try_lock(older: u32, newer: u32) -> Option<Lock>
     ensures { result ≡ lock_of older newer }
 {
-    let found = blocks::read(older);
-    match found {
-        Found::Block(word, kind) => joined(kind, word, blocks::judge(newer, follower(kind, word))),
-        Found::Nothing => Lock::No,
-        Found::TooLong => Lock::No,
-    }
+    let Ok(Some(block)) = blocks::read(older) else {
+        return None;
+    };
+    let Ok(word) = blocks::judge(newer, follower(block.kind, block.word)) else {
+        return None;
+    };
+    Some(Lock {
+        kind: block.kind,
+        older: block.word,
+        newer: word,
+    })
 }
 
 // The place that expects a kind.
@@ -177,9 +172,8 @@ fn third_place(second: Judged) -> Place
     ensures { result ≡ third_place_of second }
 {
     match second {
-        Judged::Good(word2) => place_of(groups::third_kind(word2)),
-        Judged::Bad => Place::ThirdBad,
-        Judged::Refused => Place::ThirdBad,
+        Ok(word2) => place_of(groups::third_kind(word2)),
+        Err(_) => Place::ThirdBad,
     }
 }
 
@@ -218,7 +212,7 @@ fn locked_place(kind: Kind, newer: u16) -> Place
     ensures { result ≡ (locked_of kind 0 newer).place }
 {
     match kind {
-        Kind::A => third_place(Judged::Good(newer)),
+        Kind::A => third_place(Ok(newer)),
         Kind::B => Place::Fourth,
         Kind::C => Place::First,
         Kind::CPrime => Place::First,
@@ -246,13 +240,13 @@ fn locked_hand(kind: Kind, older: u16, newer: u16) -> Group
     let empty = groups::empty();
     match kind {
         Kind::A => {
-            let one = groups::with_block(empty, 0, Judged::Good(older));
-            groups::with_block(one, 1, Judged::Good(newer))
+            let one = groups::with_block(empty, 0, Ok(older));
+            groups::with_block(one, 1, Ok(newer))
         }
         Kind::B => empty,
         Kind::C => empty,
         Kind::CPrime => empty,
-        Kind::D => groups::with_block(empty, 0, Judged::Good(newer)),
+        Kind::D => groups::with_block(empty, 0, Ok(newer)),
     }
 }
 
@@ -267,21 +261,6 @@ fn locked(kind: Kind, older: u16, newer: u16) -> Receiver
         0,
         0,
     )
-}
-
-// Hunting, and not locked.
-fn is_hunting(place: Place) -> bool
-    ensures { result ≡ is_hunting_of place }
-{
-    match place {
-        Place::Hunting => true,
-        Place::First => false,
-        Place::Second => false,
-        Place::ThirdC => false,
-        Place::ThirdCPrime => false,
-        Place::ThirdBad => false,
-        Place::Fourth => false,
-    }
 }
 
 // The place of a block in its group, from 0.
@@ -304,12 +283,12 @@ fn judge_at(place: Place, bits: u32) -> Judged
     ensures { result ≡ judge_at_of place bits }
 {
     match place {
-        Place::Hunting => Judged::Bad,
+        Place::Hunting => Err(BlockError::Bad),
         Place::First => blocks::judge(bits, Kind::A),
         Place::Second => blocks::judge(bits, Kind::B),
         Place::ThirdC => blocks::judge(bits, Kind::C),
         Place::ThirdCPrime => blocks::judge(bits, Kind::CPrime),
-        Place::ThirdBad => Judged::Bad,
+        Place::ThirdBad => Err(BlockError::Bad),
         Place::Fourth => blocks::judge(bits, Kind::D),
     }
 }
@@ -329,23 +308,12 @@ fn after(place: Place, judged: Judged) -> Place
     }
 }
 
-// Whether a judged block is bad.
-fn is_bad(judged: Judged) -> bool
-    ensures { result ≡ is_bad_of judged }
-{
-    match judged {
-        Judged::Good(_) => false,
-        Judged::Bad => true,
-        Judged::Refused => true,
-    }
-}
-
 // The bad blocks of a run with one block more.
 fn bad_with(bad: u8, judged: Judged) -> u8
     ensures { result ≡ bad_with_of bad judged }
 {
-    if is_bad(judged) {
-        if bad < RUN_BLOCKS { bad + 1 } else { bad }
+    if judged.is_err() && bad < RUN_BLOCKS {
+        bad + 1
     } else {
         bad
     }
@@ -405,14 +373,14 @@ fn answering(next: Receiver, answer: Answer) -> Step
 }
 
 // Whether the last 52 bits lock, once so many have come; `count` is how many there were before the last.
-fn lock_after(window: u64, count: u8) -> Lock
+fn lock_after(window: u64, count: u8) -> Option<Lock>
     requires { window < window_limit }
     ensures { result ≡ lock_after_of window count }
 {
     if count >= PAIR_BITS - 1 {
         return try_lock((window / BLOCK_LIMIT) as u32, (window % BLOCK_LIMIT) as u32);
     }
-    Lock::No
+    None
 }
 
 // How many of the last bits there are, with one more.
@@ -427,22 +395,22 @@ fn count_after(count: u8) -> u8
 }
 
 // The state where the last bits were tried: locked, or hunting on.
-fn hunted(lock: Lock, window: u64, count: u8) -> Receiver
+fn hunted(lock: Option<Lock>, window: u64, count: u8) -> Receiver
     ensures { result ≡ hunted_of lock window count }
 {
     match lock {
-        Lock::At(kind, older, newer) => locked(kind, older, newer),
-        Lock::No => hunting(window, count),
+        Some(lock) => locked(lock.kind, lock.older, lock.newer),
+        None => hunting(window, count),
     }
 }
 
 // What is answered then.
-fn lock_answer(lock: Lock) -> Answer
+fn lock_answer(lock: Option<Lock>) -> Answer
     ensures { result ≡ lock_answer_of lock }
 {
     match lock {
-        Lock::At(_, _, _) => Answer::Locked,
-        Lock::No => Answer::Nothing,
+        Some(_) => Answer::Locked,
+        None => Answer::Nothing,
     }
 }
 
@@ -529,8 +497,7 @@ impl Receiver {
         if bit > ONE {
             return answering(self, Answer::Refused);
         }
-        let place = self.place;
-        if is_hunting(place) {
+        if self.place == Place::Hunting {
             hunt(self.window, self.count, bit)
         } else {
             follow(self, bit)

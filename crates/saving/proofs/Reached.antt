@@ -6,14 +6,12 @@ use mathlib.Core.Bool.{Bool, true, false, cond}
 use lib.Dec.{ltb}
 use native.Mathlib.Omega.{arith}
 use borrow.Author.Tests.{ltb-true, ltb-false, le-leb}
-use Rattle.blocks.specs.Block.{read_of, judge_of}
+use Rattle.blocks.specs.Block.{Found, Judged, read_of, judge_of}
 use Rattle.blocks.specs.Damage.{block_bits}
 use Rattle.blocks.specs.declared.Kind.{Kind}
 use Rattle.blocks.specs.declared.Kind.TheVariants.{A, B, C, CPrime, D}
-use Rattle.blocks.specs.declared.Found.{Found}
-use Rattle.blocks.specs.declared.Found.TheVariants.{Block, Nothing, TooLong}
-use Rattle.blocks.specs.declared.Judged.{Judged}
-use Rattle.blocks.specs.declared.Judged.TheVariants.{Good, Bad, Refused}
+use Rattle.std.specs.Prelude.{Ok, Err, Option, Some, None}
+use Rattle.blocks.specs.declared.BlockError.TheVariants.{Bad}
 use Rattle.blocks.proofs.Reading.{found-valid, judged-valid}
 use Rattle.groups.specs.declared.Group.{Group}
 use Rattle.groups.specs.Group.{places, empty_of, with_block_of, judged_word}
@@ -21,7 +19,6 @@ use Rattle.receiver.specs.declared.Place.{Place}
 use Rattle.receiver.specs.declared.Place.TheVariants.{Hunting, First, Second, Fourth}
 use Rattle.receiver.specs.declared.Place.TheVariants.{ThirdC, ThirdCPrime, ThirdBad}
 use Rattle.receiver.specs.declared.Lock.{Lock}
-use Rattle.receiver.specs.declared.Lock.TheVariants.{At, No}
 use Rattle.receiver.specs.declared.Receiver.{Receiver}
 use Rattle.receiver.specs.declared.Step.{Step}
 use Rattle.receiver.specs.Rules.{pair_bits, run_blocks, follower_of, joined_of, pair_of, lock_of, is_bad_of, loses_of}
@@ -36,9 +33,8 @@ abbrev pub Fits : Judged → Type 0
 Fits judged = judged_word judged < 65536
 
 judged_fits : (judged : Judged) (bits : ℕ) (kind : Kind) → judge_of bits kind ≡ judged → Fits judged
-judged_fits (Good word) bits kind e = let v = judged-valid bits word kind e in omega (arith, v.0, v.2)
-judged_fits Bad bits kind e = omega arith
-judged_fits Refused bits kind e = omega arith
+judged_fits (Ok word) bits kind e = let v = judged-valid bits word kind e in omega (arith, v.0, v.2)
+judged_fits (Err error) bits kind e = omega arith
 
 judge_fits : (bits : ℕ) (kind : Kind) → Fits (judge_of bits kind)
 judge_fits bits kind = judged_fits (judge_of bits kind) bits kind refl
@@ -53,21 +49,21 @@ judge-at_fits ThirdBad bits = omega arith
 judge-at_fits Fourth bits = judge_fits bits D
 
 -- both words of a lock fit
-abbrev LockFits : Lock → Type 0
-LockFits (At kind older newer) = (older < 65536) × (newer < 65536)
-LockFits No = Unit {0}
+abbrev LockFits : Option Lock → Type 0
+LockFits (Some lock) = (lock.older < 65536) × (lock.newer < 65536)
+LockFits None = Unit {0}
 
 joined_fits : (kind : Kind) (older : ℕ) (judged : Judged) → older < 65536 → Fits judged → LockFits (joined_of kind older judged)
-joined_fits kind older (Good newer) o n = (o, n)
-joined_fits kind older Bad o n = tt
-joined_fits kind older Refused o n = tt
+joined_fits kind older (Ok newer) o n = (o, n)
+joined_fits kind older (Err error) o n = tt
 
 pair_fits : (found : Found) (older newer : ℕ) → read_of older ≡ found → LockFits (pair_of found newer)
-pair_fits (Block word kind) older newer e =
-    let v = found-valid older word kind e in
-    joined_fits kind word (judge_of newer (follower_of kind word)) (omega (arith, v.0, v.2)) (judge_fits newer (follower_of kind word))
-pair_fits Nothing older newer e = tt
-pair_fits TooLong older newer e = tt
+pair_fits (Ok (Some block)) older newer e =
+    let v = found-valid older block.word block.kind e in
+    joined_fits block.kind block.word (judge_of newer (follower_of block.kind block.word))
+    (omega (arith, v.0, v.2)) (judge_fits newer (follower_of block.kind block.word))
+pair_fits (Ok None) older newer e = tt
+pair_fits (Err too_long) older newer e = tt
 
 lock_fits : (older newer : ℕ) → LockFits (lock_of older newer)
 unfolding lock_of
@@ -94,7 +90,7 @@ made-empty : Made empty_of
 unfolding with_block_of
 made-empty =
     record
-    { a = Bad; b = Bad; c = Bad; d = Bad; is = refl; fits_a = omega arith; fits_b = omega arith; fits_c = omega arith; fits_d = omega arith }
+    { a = Err Bad; b = Err Bad; c = Err Bad; d = Err Bad; is = refl; fits_a = omega arith; fits_b = omega arith; fits_c = omega arith; fits_d = omega arith }
 
 made_with : (hand : Group) (i : ℕ) (judged : Judged) → Made hand → Fits judged → Made (with_block_of hand i judged)
 unfolding with_block_of
@@ -168,14 +164,14 @@ begin_sound place held hand run bad m r b =
 
 locked_sound : (kind : Kind) (older newer : ℕ) → older < 65536 → newer < 65536 → Sound (locked_of kind older newer)
 locked_sound A older newer o n =
-    begin_sound (third_place_of (Good newer)) true _ 0 0
-    (made_with (with_block_of empty_of 0 (Good older)) 1 (Good newer) (made_with empty_of 0 (Good older) made-empty o) n)
+    begin_sound (third_place_of (Ok newer)) true _ 0 0
+    (made_with (with_block_of empty_of 0 (Ok older)) 1 (Ok newer) (made_with empty_of 0 (Ok older) made-empty o) n)
     (omega arith) (omega arith)
 locked_sound B older newer o n = begin_sound Fourth false empty_of 0 0 made-empty (omega arith) (omega arith)
 locked_sound C older newer o n = begin_sound First true empty_of 0 0 made-empty (omega arith) (omega arith)
 locked_sound CPrime older newer o n = begin_sound First true empty_of 0 0 made-empty (omega arith) (omega arith)
 locked_sound D older newer o n =
-    begin_sound Second true _ 0 0 (made_with empty_of 0 (Good newer) made-empty n) (omega arith) (omega arith)
+    begin_sound Second true _ 0 0 (made_with empty_of 0 (Ok newer) made-empty n) (omega arith) (omega arith)
 
 shift-lt : (window bit : ℕ) → bit ≤ 1 → shift_of window bit < 2 ^ 64
 shift-lt window bit h = omega arith
@@ -185,9 +181,9 @@ hunting_sound : (window count : ℕ) → window < 2 ^ 64 → count < 256
 hunting_sound window count w c =
     record { window = w; count = c; run = omega arith; bad = omega arith; hand = made-empty }
 
-tried_sound : (window : ℕ) (lock : Lock) → window < 2 ^ 64 → LockFits lock → Sound (tried_of window lock).next
-tried_sound window (At kind older newer) w f = locked_sound kind older newer f.0 f.1
-tried_sound window No w f = hunting_sound window pair_bits w (omega arith)
+tried_sound : (window : ℕ) (lock : Option Lock) → window < 2 ^ 64 → LockFits lock → Sound (tried_of window lock).next
+tried_sound window (Some lock) w f = locked_sound lock.kind lock.older lock.newer f.0 f.1
+tried_sound window None w f = hunting_sound window pair_bits w (omega arith)
 
 hunt_sound : (window count bit : ℕ) → bit ≤ 1 → Sound (hunt_of window count bit).next
 unfolding hunt_of

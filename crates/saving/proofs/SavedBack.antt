@@ -9,8 +9,9 @@ use native.Mathlib.Omega.{arith}
 use borrow.Author.Tests.{le-ltb}
 use Rattle.bits.specs.Spell.{spell}
 use Rattle.bits.specs.Bytes.{bit_at, bytes_of}
-use Rattle.blocks.specs.declared.Judged.{Judged}
-use Rattle.blocks.specs.declared.Judged.TheVariants.{Good, Bad, Refused}
+use Rattle.std.specs.Prelude.{Ok, Err}
+use Rattle.blocks.specs.Block.{Judged}
+use Rattle.blocks.specs.declared.BlockError.TheVariants.{Bad}
 use Rattle.groups.specs.declared.Group.{Group}
 use Rattle.groups.specs.Group.{with_block_of, word_of, good_of, judged_word, judged_good}
 use Rattle.receiver.specs.declared.Place.{Place}
@@ -39,11 +40,10 @@ flag_back false = refl
 
 -- a block whose mark and word are those of a judged one brings the same word and the same mark
 block_back : (judged : Judged) (mark word : ℕ) → mark ≡ flag_of (judged_good judged) → word ≡ judged_word judged
-    → (judged_word (cond (ltb 0 mark) (Good word) Bad) ≡ judged_word judged)
-    × (judged_good (cond (ltb 0 mark) (Good word) Bad) ≡ judged_good judged)
-block_back (Good w) mark word m e = (rw (m, e), rw m)
-block_back Bad mark word m e = (rw m, rw m)
-block_back Refused mark word m e = (rw m, rw m)
+    → (judged_word (cond (ltb 0 mark) (Ok word) (Err Bad)) ≡ judged_word judged)
+    × (judged_good (cond (ltb 0 mark) (Ok word) (Err Bad)) ≡ judged_good judged)
+block_back (Ok w) mark word m e = (rw (m, e), rw m)
+block_back (Err error) mark word m e = (rw m, rw m)
 
 -- the group in hand comes back where its marks and words were read back
 module _ (s : List ℕ) (hand : Group) (m : Made hand)

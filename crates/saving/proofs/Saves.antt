@@ -16,7 +16,9 @@ use Rattle.bits.proofs.ByteBits.{bit_at_lt, spell-byte, spell-drop, spell_front,
 use Rattle.groups.specs.Group.{word_of, good_of}
 use Rattle.receiver.specs.declared.Receiver.{Receiver}
 use Rattle.receiver.specs.Feeding.{byte_bits}
-use Rattle.saving.specs.Saving.{state_length, flag_of, place_number_of, state_bytes_of}
+use Rattle.std.specs.Prelude.{IsOk}
+use borrow.Author.Tests.{le-ltb}
+use Rattle.saving.specs.Saving.{state_length, save_of, flag_of, place_number_of, state_bytes_of}
 
 -- ---- bytes as a number
 
@@ -79,3 +81,8 @@ copy_next from out i h l =
 -- all of them are
 pub copied : (from out : List ℕ) (i : ℕ) → length from ≡ i → take i from ++ drop i out ≡ from ++ drop i out
 copied from out i h = rw (take_all i from (omega arith))
+
+-- with room a state is saved
+pub save-room : (out : List ℕ) → state_length ≤ length out → IsOk (save_of out)
+unfolding save_of
+save-room out h = rw (le-ltb (length out) state_length h)

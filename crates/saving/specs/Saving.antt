@@ -1,17 +1,17 @@
 -- The state as bytes and back: 25 bytes, numbers highest byte first.
 use Rattle.std.specs.Prelude.{ℕ, ◌+◌, ◌*◌, List, [], ◌∷◌, ◌++◌, Bool, cond, eqb, ltb, length, get_or, drop}
+use Rattle.std.specs.Prelude.{Result, Ok, Err}
 use Rattle.bits.specs.Spell.{spell}
 use Rattle.bits.specs.Bytes.{bit_at, bytes_of}
-use Rattle.blocks.specs.declared.Judged.{Judged}
-use Rattle.blocks.specs.declared.Judged.TheVariants.{Good, Bad}
+use Rattle.blocks.specs.Block.{Judged}
+use Rattle.blocks.specs.declared.BlockError.TheVariants.{Bad}
 use Rattle.groups.specs.declared.Group.{Group}
 use Rattle.groups.specs.Group.{empty_of, with_block_of, word_of, good_of}
 use Rattle.receiver.specs.declared.Place.{Place}
 use Rattle.receiver.specs.declared.Place.TheVariants.{Hunting, First, Second, Fourth}
 use Rattle.receiver.specs.declared.Place.TheVariants.{ThirdC, ThirdCPrime, ThirdBad}
 use Rattle.receiver.specs.declared.Receiver.{Receiver}
-use Rattle.saving.specs.declared.Saved.{Saved}
-use Rattle.saving.specs.declared.Saved.TheVariants.{Done, TooShort}
+use Rattle.groups.specs.declared.bytes.TooShort.{TooShort}
 use Rattle.receiver.specs.Feeding.{byte_bits}
 
 -- ---- the places of the fields, as byte numbers
@@ -78,13 +78,13 @@ state_bytes_of r =
     ∷ [])
 
 -- a buffer that is too short is refused
-unfoldable pub save_of : List ℕ → Saved
-save_of out = cond (ltb (length out) state_length) TooShort Done
+unfoldable pub save_of : List ℕ → Result (Unit {0}) TooShort
+save_of out = cond (ltb (length out) state_length) (Err (record {})) (Ok tt)
 
 -- 8 is "buffer too short"
-abbrev pub saved_number : Saved → ℕ
-saved_number Done = 0
-saved_number TooShort = 8
+abbrev pub saved_number : Result (Unit {0}) TooShort → ℕ
+saved_number (Ok done) = 0
+saved_number (Err too_short) = 8
 
 -- the buffer then: unchanged where it is too short; else the state's bytes, and the bytes beyond as they were
 unfoldable pub buffer_of : Receiver → List ℕ → List ℕ
@@ -105,7 +105,7 @@ place_numbered_of n =
 -- block i of the group in hand: good with its word where the mask says so
 abbrev pub saved_block_of : List ℕ → ℕ → Judged
 saved_block_of s i =
-    cond (ltb 0 (get_or s (mask_at + i) 0)) (Good (spell (bit_at s) (byte_bits * (words_at + 2 * i)) (byte_bits * 2))) Bad
+    cond (ltb 0 (get_or s (mask_at + i) 0)) (Ok (spell (bit_at s) (byte_bits * (words_at + 2 * i)) (byte_bits * 2))) (Err Bad)
 
 -- the group in hand, block by block
 abbrev pub saved_hand_of : List ℕ → Group

@@ -9,16 +9,10 @@ ghost use Rattle.receiver.specs.Feeding.{byte_bits};
 ghost use Rattle.saving.specs.Saving.{state_length, flag_of, place_number_of, state_bytes_of, save_of, saved_number};
 ghost use Rattle.saving.specs.Saving.{buffer_of, place_numbered_of, saved_block_of, saved_hand_of, restore_of};
 
-use blocks::Judged;
+use blocks::{BlockError, Judged};
 use groups::Group;
+use groups::bytes::TooShort;
 use receiver::{Place, Receiver};
-
-// Whether the state was saved: a buffer that is too short is refused.
-#[derive(Clone, Copy)]
-pub enum Saved {
-    Done,
-    TooShort,
-}
 
 // The bytes of a state, and where its fields are.
 const STATE_LENGTH: usize = 25;
@@ -139,9 +133,9 @@ fn saved_block(bytes: &[u8], i: usize) -> Judged
     ensures { result ≡ saved_block_of bytes.now i }
 {
     if byte_at(bytes, MASK_AT + i) > 0 {
-        Judged::Good(number_at(bytes, WORDS_AT + 2 * i, 2) as u16)
+        Ok(number_at(bytes, WORDS_AT + 2 * i, 2) as u16)
     } else {
-        Judged::Bad
+        Err(BlockError::Bad)
     }
 }
 
@@ -156,13 +150,13 @@ fn saved_hand(bytes: &[u8]) -> Group
 }
 
 // The state as bytes; the bytes beyond stay.
-pub fn save(receiver: Receiver, out: &mut [u8]) -> Saved
+pub fn save(receiver: Receiver, out: &mut [u8]) -> Result<(), TooShort>
     ensures { (result ≡ save_of out.old)
         × (saved_number result ≡ cond (ltb (length out.old) state_length) 8 0)
         × (out.new ≡ buffer_of receiver out.old) }
 {
     if out.len() < STATE_LENGTH {
-        return Saved::TooShort;
+        return Err(TooShort);
     }
     let bytes = state_bytes(receiver);
     let mut i = 0;
@@ -170,7 +164,7 @@ pub fn save(receiver: Receiver, out: &mut [u8]) -> Saved
         out[i] = bytes[i];
         i += 1;
     }
-    Saved::Done
+    Ok(())
 }
 
 // The state that bytes hold; bytes that are missing are read as 0.

@@ -7,7 +7,7 @@ ghost use Rattle.std.specs.Prelude.{◌+◌, ◌≤◌, length};
 
 mod lines;
 
-use blocks::Judged;
+use blocks::{BlockError, Judged};
 use groups::Group;
 use station::Record;
 use std::io;
@@ -34,9 +34,9 @@ fn pair(high: u8, low: u8) -> usize
 // A block with the word of two bytes, good where the mark's last bit is 1.
 fn judged(mark: u8, high: u8, low: u8) -> Judged {
     if mark % 2 == 1 {
-        Judged::Good(pair(high, low) as u16)
+        Ok(pair(high, low) as u16)
     } else {
-        Judged::Bad
+        Err(BlockError::Bad)
     }
 }
 

@@ -10,12 +10,12 @@ returns-then-bits-ge-LIMIT c = judge_settled _ _ _ (sym (judge-long c.args.bits 
 pub returns-then-left-offset : goal.returns-then-left-offset
 returns-then-left-offset c =
     judge_settled _ _ _
-    (judge_left c.args.bits _ (omega arith) c.left.ensures
-    c.args.kind (c.if-left-offset.true ∙ c.offset.ensures))
-
-pub returns-else-left-offset : goal.returns-else-left-offset
-returns-else-left-offset c =
-    judge_settled _ _ _
     (judge_none_left c.args.bits _ (omega arith)
     c.left.ensures c.args.kind
-    (λ e. c.if-left-offset.false (e ∙ sym c.offset.ensures)))
+    (λ e. c.if-left-offset.true (e ∙ sym c.offset.ensures)))
+
+pub returns : goal.returns
+returns c =
+    judge_settled _ _ _
+    (judge_left c.args.bits _ (omega arith) c.left.ensures
+    c.args.kind (c.if-left-offset.false ∙ c.offset.ensures))

@@ -1,6 +1,8 @@
 -- `encoder::put_groups` meets its contract: before each address the groups of those before it stand at the front, over
 -- the buffer as it was; what is left is the number of addresses to come.
-use mathlib.Core.Path.{refl, ap, ◌∙◌}
+use mathlib.Core.Path.{◌≡◌, refl, ap, ◌∙◌}
+use Prim.Native.Nat.{◌*◌}
+use Rattle.groups.proofs.RoomLaws.{put_room}
 use native.Mathlib.Omega.{arith}
 use borrow.Author.Rules.{rules}
 use lib.ListN.{length}
@@ -22,6 +24,16 @@ loop-address-preserved c =
           (omega (arith, size_sent k)) c.words_at-words.ensures
           c.put_at.ensures.2,
     )
+
+-- there is room for each group
+pub unwrap-requires : goal.unwrap-requires
+unwrap-requires c =
+    let k = c.args.key.bytes in
+    let l = c.loop-address in
+    let long : length l.out ≡ length c.args.out.now =
+    ap length l.invariant.1
+    ∙ length_front k c.args.out.now (below l.address) (rw (length-below l.address) (omega (arith, size_sent k))) in
+    rw c.put_at.ensures.0 (put_room l.out (13 * l.address) (omega (arith, size_sent k, c.sent-count.ensures.0)))
 
 pub shape_of-out : goal.shape_of-out
 shape_of-out c =

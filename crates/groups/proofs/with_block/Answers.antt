@@ -12,6 +12,6 @@ pub returns : goal.returns
 unfolding with_block_of
 returns c = rw (
   lt-leb places c.args.place (omega arith),
-  c.judged_good.ensures,
-  c.judged_word.ensures,
+  c.is_ok.ensures.value,
+  c.unwrap_or.ensures,
 )

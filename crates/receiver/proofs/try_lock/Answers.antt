@@ -1,21 +1,19 @@
--- `receiver::try_lock` meets its promise: by what the older block is found to be.
+-- `receiver::try_lock` meets its promise: by what the older block is found to be, and how the newer is judged.
 use Rattle.receiver.specs.Rules.{lock_of}
 use Rattle.receiver.proofs.try_lock.Goals as goal
 
-pub returns-in-Block : goal.returns-in-Block
+pub returns-in_default : goal.returns-in_default
 unfolding lock_of
-returns-in-Block c = rw (
-  ← c.read-found.ensures.0,
-  c.in-Block.is,
-  c.joined.ensures,
-  c.judge.ensures.0,
-  c.follower.ensures,
-)
+returns-in_default c = rw (← c.read.ensures.0, c.in_default.is) (cc)
 
-pub returns-in-Nothing : goal.returns-in-Nothing
+pub returns-in_default-2 : goal.returns-in_default-2
 unfolding lock_of
-returns-in-Nothing c = rw (← c.read-found.ensures.0, c.in-Nothing.is)
+returns-in_default-2 c = rw (← c.read.ensures.0, c.in_default.is)
 
-pub returns-in-TooLong : goal.returns-in-TooLong
+pub returns-in_default-judge : goal.returns-in_default-judge
 unfolding lock_of
-returns-in-TooLong c = rw (← c.read-found.ensures.0, c.in-TooLong.is)
+returns-in_default-judge c = rw (← c.read.ensures.0, c.in-Ok-Some.is, c.in-Ok-Some.field-0-is, ← c.follower.ensures, ← c.judge.ensures.0, c.in_default-judge.is)
+
+pub returns : goal.returns
+unfolding lock_of
+returns c = rw (← c.read.ensures.0, c.in-Ok-Some.is, c.in-Ok-Some.field-0-is, ← c.follower.ensures, ← c.judge.ensures.0, c.in-Ok.is)

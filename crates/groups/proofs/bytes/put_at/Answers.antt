@@ -3,12 +3,8 @@ use native.Mathlib.Omega.{arith}
 use Rattle.groups.proofs.RoomLaws.{put_short, put_done}
 use Rattle.groups.proofs.bytes.put_at.Goals as goal
 
-pub returns-then-out-lt-SIZE : goal.returns-then-out-lt-SIZE
-returns-then-out-lt-SIZE c = put_short c.args.words c.args.out.now
-    c.args.at (omega arith)
-
-pub returns-then-out-at : goal.returns-then-out-at
-returns-then-out-at c = put_short c.args.words c.args.out.now
+pub returns-then-saturating_sub-lt-SIZE : goal.returns-then-saturating_sub-lt-SIZE
+returns-then-saturating_sub-lt-SIZE c = put_short c.args.words c.args.out.now
     c.args.at (omega arith)
 
 pub returns : goal.returns

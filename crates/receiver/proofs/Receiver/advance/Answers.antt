@@ -1,6 +1,7 @@
 -- `receiver::Receiver::advance` meets its promise. Feeding on from where the loop is gives the whole answer.
 use mathlib.Core.Path.{refl, sym, ◌∙◌}
 use Rattle.receiver.proofs.Feeds.{advance-end, advance_no-bit, then_on, then_stop, advance_settled}
+use Rattle.receiver.proofs.Same.{same-nothing, other-nothing}
 use borrow.Author.Rules.{rules}
 use native.Mathlib.Omega.{arith}
 use Rattle.receiver.proofs.Receiver.advance.Goals as goal
@@ -25,15 +26,15 @@ pub loop-at-preserved : goal.loop-at-preserved
 loop-at-preserved c = (
   c.loop-at.invariant.0 ∙ c.some_fed-taken.ensures.whole
       ∙ then_on c.some_fed-taken.result _
-      (sym c.is_nothing.ensures ∙ c.if-is_nothing.true),
+      (same-nothing c.some_fed-taken.result.answer (sym c.ne.ensures ∙ c.if-ne.false)),
   c.some_fed-taken.ensures.within,
 )
 
-pub returns-else-is_nothing : goal.returns-else-is_nothing
-returns-else-is_nothing c = let a = c.args in
+pub returns-then-ne : goal.returns-then-ne
+returns-then-ne c = let a = c.args in
     advance_settled _ a.self a.bytes.now a.byte a.bit
     (c.loop-at.invariant.0 ∙ c.some_fed-taken.ensures.whole
-    ∙ then_stop c.some_fed-taken.result _ (sym c.is_nothing.ensures ∙ c.if-is_nothing.false))
+    ∙ then_stop c.some_fed-taken.result _ (other-nothing c.some_fed-taken.result.answer (sym c.ne.ensures ∙ c.if-ne.true)))
 
 pub returns : goal.returns
 returns c = let a = c.args in let l = c.loop-at in

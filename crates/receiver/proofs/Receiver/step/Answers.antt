@@ -1,5 +1,6 @@
 -- `receiver::Receiver::step` meets its promise: by whether the bit is refused, and whether it hunts.
 use Rattle.receiver.proofs.Refusal.{step_settled}
+use Rattle.receiver.proofs.Same.{same-hunting}
 use Rattle.receiver.specs.Machine.{step_of}
 use borrow.Author.Tests.{lt-ltb, le-ltb}
 use native.Mathlib.Omega.{arith}
@@ -10,14 +11,14 @@ unfolding step_of
 returns-then-bit-gt-ONE c = let a = c.args in
     step_settled _ a.self a.bit (rw (lt-ltb 1 a.bit (omega arith), c.answering.ensures))
 
-pub returns-then-is_hunting : goal.returns-then-is_hunting
+pub returns-then-eq : goal.returns-then-eq
 unfolding step_of
-returns-then-is_hunting c = let a = c.args in
+returns-then-eq c = let a = c.args in
     step_settled _ a.self a.bit
-    (rw (le-ltb 1 a.bit (omega arith), ← c.is_hunting.ensures, c.if-is_hunting.true, c.hunt.ensures))
+    (rw (le-ltb 1 a.bit (omega arith), ← same-hunting a.self.place, ← c.eq.ensures, c.if-eq.true, c.hunt.ensures))
 
-pub returns-else-is_hunting : goal.returns-else-is_hunting
+pub returns-else-eq : goal.returns-else-eq
 unfolding step_of
-returns-else-is_hunting c = let a = c.args in
+returns-else-eq c = let a = c.args in
     step_settled _ a.self a.bit
-    (rw (le-ltb 1 a.bit (omega arith), ← c.is_hunting.ensures, c.if-is_hunting.false, c.follow.ensures))
+    (rw (le-ltb 1 a.bit (omega arith), ← same-hunting a.self.place, ← c.eq.ensures, c.if-eq.false, c.follow.ensures))

@@ -1,6 +1,6 @@
 -- `receiver::feeding::hunt_on` meets its promise. Feeding on from where the loop is gives the whole answer.
 use Rattle.receiver.proofs.Quiet.{shift-limit, hunt_bit}
-use Rattle.receiver.specs.Strides.{is_lock_of}
+use Rattle.std.specs.Prelude.{is_some}
 use Rattle.receiver.specs.Feeding.{byte_bits}
 use Rattle.receiver.specs.Machine.{shift_of}
 use Rattle.bits.proofs.ByteBits.{bit_at_lt}
@@ -27,8 +27,8 @@ loop-at-preserved c = let l = c.loop-at in
     let s = c.args.bytes.now in
     let e = c.shifted-moved.ensures
     ∙ ap (shift_of l.last) c.bit_of.ensures in
-    let q = ap is_lock_of (sym c.lock_after.ensures)
-    ∙ sym c.is_lock.ensures ∙ c.if-is_lock.false in (
+    let q = ap is_some (sym c.lock_after.ensures)
+    ∙ sym c.is_some.ensures ∙ c.if-is_some.false in (
       l.invariant.0
           ∙ hunt_bit s l.at l.inside _ _ (omega arith) l.invariant.1 c.onward-spot.ensures.0
           c.onward-spot.ensures.1
@@ -41,6 +41,6 @@ loop-at-preserved c = let l = c.loop-at in
 pub returns-after-loop-at : goal.returns-after-loop-at
 returns-after-loop-at c = let l = c.loop-at in record { whole = l.invariant.0; moved = l.invariant.2; within = l.invariant.1 }
 
-pub returns-then-is_lock : goal.returns-then-is_lock
-returns-then-is_lock c = let l = c.loop-at in
+pub returns-then-is_some : goal.returns-then-is_some
+returns-then-is_some c = let l = c.loop-at in
     record { whole = l.invariant.0; moved = l.invariant.2; within = l.invariant.1 }

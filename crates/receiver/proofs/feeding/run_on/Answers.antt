@@ -1,12 +1,13 @@
 -- `receiver::feeding::run_on` meets its promise: by whether it hunts.
 use Rattle.receiver.proofs.Quiet.{hunting_bare, taken-hunting, taken_inside}
+use Rattle.receiver.proofs.Same.{same-hunting}
 use mathlib.Core.Path.{sym, ◌∙◌}
 use native.Mathlib.Omega.{arith}
 use Rattle.receiver.proofs.feeding.run_on.Goals as goal
 
-pub returns-then-is_hunting : goal.returns-then-is_hunting
-returns-then-is_hunting c = let a = c.args in
-    let h = sym c.is_hunting.ensures ∙ c.if-is_hunting.true in
+pub returns-then-eq : goal.returns-then-eq
+returns-then-eq c = let a = c.args in
+    let h = sym (same-hunting a.receiver.place) ∙ sym c.eq.ensures ∙ c.if-eq.true in
     let t = c.hunt_on.result in
     record {
       whole = hunting_bare a.receiver a.bytes.now a.byte a.bit (omega arith) (omega arith) h
@@ -15,9 +16,9 @@ returns-then-is_hunting c = let a = c.args in
       within = c.hunt_on.ensures.within;
     }
 
-pub returns-else-is_hunting : goal.returns-else-is_hunting
-returns-else-is_hunting c = let a = c.args in
-    let h = sym c.is_hunting.ensures ∙ c.if-is_hunting.false in
+pub returns-else-eq : goal.returns-else-eq
+returns-else-eq c = let a = c.args in
+    let h = sym (same-hunting a.receiver.place) ∙ sym c.eq.ensures ∙ c.if-eq.false in
     let t = c.fill.result in
     record {
       whole = c.fill.ensures.whole a.receiver h ∙ rw (taken_inside a.receiver t.window t.count h);
