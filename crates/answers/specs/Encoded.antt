@@ -1,10 +1,9 @@
 -- What `encode` writes for an exercise: to standard output the encoding, or, where it is refused, nothing there and the
 -- refusal's number to standard error.
-use Rattle.std.specs.Prelude.{ℕ, List, [], ◌++◌, cond, eqb}
+use Rattle.std.specs.Prelude.{ℕ, List, [], ◌++◌, Result, Ok, Err, cond, eqb}
 use Rattle.letters.specs.Letters.{codes}
 use Rattle.keys.specs.Sheet.{key_at}
-use Rattle.encoder.specs.declared.Encoded.{Encoded}
-use Rattle.encoder.specs.declared.Encoded.TheVariants.{Written, NoKey, BadKey, TooShort}
+use Rattle.encoder.specs.declared.EncodeError.{EncodeError}
 use Rattle.encoder.specs.Encoding.{encoding, sent_of}
 use Rattle.encoder.specs.Answer.{encode_of, encoded_number}
 use Rattle.answers.specs.Line.{labelled}
@@ -14,25 +13,21 @@ abbrev pub output_room : ℕ
 output_room = 260
 
 -- what the encoder answers where it has that room
-abbrev pub answer_of : List ℕ → ℕ → Encoded
+abbrev pub answer_of : List ℕ → ℕ → Result ℕ EncodeError
 answer_of sheet n = encode_of sheet n output_room
 
 -- to standard output: the encoding of the key, or nothing
-abbrev pub output_text : Encoded → List ℕ → List ℕ
-output_text (Written count) k = encoding k (sent_of k)
-output_text NoKey k = []
-output_text BadKey k = []
-output_text TooShort k = []
+abbrev pub output_text : Result ℕ EncodeError → List ℕ → List ℕ
+output_text (Ok count) k = encoding k (sent_of k)
+output_text (Err error) k = []
 
 unfoldable pub output_of : List ℕ → ℕ → List ℕ
 output_of sheet n = output_text (answer_of sheet n) (key_at sheet n)
 
 -- so many bytes of the encoder's buffer
-abbrev pub written_of : Encoded → ℕ
-written_of (Written count) = count
-written_of NoKey = 0
-written_of BadKey = 0
-written_of TooShort = 0
+abbrev pub written_of : Result ℕ EncodeError → ℕ
+written_of (Ok count) = count
+written_of (Err error) = 0
 
 -- to standard error: the line of a refusal, or nothing
 abbrev pub refusal_line : ℕ → List ℕ

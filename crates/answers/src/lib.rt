@@ -12,7 +12,7 @@ ghost use Rattle.encoder.specs.Answer.{encoded_number};
 ghost use Rattle.answers.specs.Encoded.{written_of, output_of, error_text, error_of, output_room, error_room};
 ghost use Rattle.answers.specs.Enough.{sheet_room, input_room};
 
-use encoder::Encoded;
+use encoder::EncodeError;
 use letters::TooShort;
 use marker::Verdict;
 
@@ -145,26 +145,21 @@ fn with_verdict(exercise: u8, verdict: Verdict) -> MarkAnswer
 }
 
 // How many bytes of the buffer the encoder has written.
-fn written(encoded: Encoded) -> usize
+fn written(encoded: Result<usize, EncodeError>) -> usize
     ensures { result ≡ written_of encoded }
 {
-    match encoded {
-        Encoded::Written(length) => length,
-        Encoded::NoKey => 0,
-        Encoded::BadKey => 0,
-        Encoded::TooShort => 0,
-    }
+    encoded.unwrap_or(0)
 }
 
 // The number of what the encoder answered.
-fn number(encoded: Encoded) -> u64
+fn number(encoded: Result<usize, EncodeError>) -> u64
     ensures { result ≡ encoded_number encoded }
 {
     match encoded {
-        Encoded::Written(_) => 0,
-        Encoded::NoKey => 1,
-        Encoded::BadKey => 2,
-        Encoded::TooShort => 8,
+        Ok(_) => 0,
+        Err(EncodeError::NoKey) => 1,
+        Err(EncodeError::BadKey) => 2,
+        Err(EncodeError::TooShort) => 8,
     }
 }
 

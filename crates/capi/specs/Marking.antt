@@ -1,11 +1,11 @@
 -- The encoder's answer as one number.
-use Rattle.std.specs.Prelude.{ℕ}
-use Rattle.encoder.specs.declared.Encoded.{Encoded}
-use Rattle.encoder.specs.declared.Encoded.TheVariants.{Written, NoKey, BadKey, TooShort}
+use Rattle.std.specs.Prelude.{ℕ, Result, Ok, Err}
+use Rattle.encoder.specs.declared.EncodeError.{EncodeError}
+use Rattle.encoder.specs.declared.EncodeError.TheVariants.{NoKey, BadKey, TooShort}
 
 -- how many bytes were written, 52 or 260; 1, 2 or 8 where it is refused
-abbrev pub encoded_code : Encoded → ℕ
-encoded_code (Written count) = count
-encoded_code NoKey = 1
-encoded_code BadKey = 2
-encoded_code TooShort = 8
+abbrev pub encoded_code : Result ℕ EncodeError → ℕ
+encoded_code (Ok count) = count
+encoded_code (Err NoKey) = 1
+encoded_code (Err BadKey) = 2
+encoded_code (Err TooShort) = 8

@@ -4,7 +4,7 @@ ghost use Rattle.encoder.specs.Answer.{encode_of, out_of};
 ghost use Rattle.marker.specs.Mark.{mark_number, mark_place};
 ghost use Rattle.capi.specs.Marking.{encoded_code};
 
-use encoder::Encoded;
+use encoder::EncodeError;
 
 // The groups of an exercise's key at the front of a buffer.
 pub fn bench_encode(sheet: &[u8], exercise: usize, out: &mut [u8]) -> usize
@@ -14,14 +14,14 @@ pub fn bench_encode(sheet: &[u8], exercise: usize, out: &mut [u8]) -> usize
     encoded_code(encoder::encode(sheet, exercise, out))
 }
 
-fn encoded_code(encoded: Encoded) -> usize
+fn encoded_code(encoded: Result<usize, EncodeError>) -> usize
     ensures { result ≡ encoded_code encoded }
 {
     match encoded {
-        Encoded::Written(count) => count,
-        Encoded::NoKey => 1,
-        Encoded::BadKey => 2,
-        Encoded::TooShort => 8,
+        Ok(count) => count,
+        Err(EncodeError::NoKey) => 1,
+        Err(EncodeError::BadKey) => 2,
+        Err(EncodeError::TooShort) => 8,
     }
 }
 

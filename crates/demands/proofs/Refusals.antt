@@ -25,7 +25,6 @@ use Rattle.keys.specs.Sheet.{HasExercise, key_at}
 use Rattle.keys.specs.Fields.{wanted_of}
 use Rattle.keys.specs.Good.{GoodKey}
 use Rattle.keys.specs.Asked.{key_number_of}
-use Rattle.keys.specs.declared.Asked.{Asked}
 use Rattle.keys.proofs.AnswerLaws.{one_is_none, two_is_bad, none_is_one, bad_is_two}
 use Rattle.encoder.specs.Encoding.{size_of}
 use Rattle.encoder.proofs.SizeLaws.{size_wanted, size_unwanted}
@@ -53,7 +52,7 @@ row_one =
       place = λ sheet n s p m. place_0 sheet n s 1 p (omega arith) m;
       key_of = λ sheet n. Iff.trans (
         one_is_none sheet n,
-        λ f. ap (λ (a : Asked). key_number_of a.answer) (none_is_one sheet n f),
+        λ f. ap key_number_of (none_is_one sheet n f),
       ) (no_exercise sheet n);
       encode = λ sheet n room. Iff.trans (number_1 sheet n room) (no_exercise sheet n);
       encode_same = buffer_stays 1 (omega arith);
@@ -70,7 +69,7 @@ row_two =
       place = λ sheet n s p m. place_0 sheet n s 2 p (omega arith) m;
       key_of = λ sheet n. Iff.trans (
         two_is_bad sheet n,
-        λ t. ap (λ (a : Asked). key_number_of a.answer) (bad_is_two sheet n t.0 t.1),
+        λ t. ap key_number_of (bad_is_two sheet n t.0 t.1),
       ) (there sheet n);
       encode = λ sheet n room. Iff.trans (number_2 sheet n room) (there sheet n);
       encode_same = buffer_stays 2 (omega arith);

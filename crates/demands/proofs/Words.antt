@@ -21,8 +21,7 @@ use Rattle.keys.proofs.WantedLaws.{addresses_least}
 use Rattle.marker.specs.Submission.{word_at}
 use Rattle.marker.specs.Tests.{submission_limit, text_at, is_2a}
 use Rattle.marker.specs.First.{first}
-use Rattle.marker.specs.declared.checks.Found.{Found}
-use Rattle.marker.specs.declared.checks.Found.TheVariants.{At, Nowhere}
+use Rattle.std.specs.Prelude.{Option, Some, None}
 use Rattle.marker.specs.Rules.{GoodLength, IsName, Is2A, First2A, SameFlag, HeaderRight, ContentRight}
 use Rattle.marker.proofs.FirstLaws.{at_first, none_first}
 use Rattle.marker.proofs.RuleLaws.{is_2A, not_2A}
@@ -119,11 +118,11 @@ module _ (k s : List ℕ) (g : ℕ) where
 first_2A : (s : List ℕ) (g : ℕ) → Is2A s g → (h : ℕ) × First2A s h
 first_2A s g t = told (first (is_2a s) 0 (suc g)) refl
   where
-    told : (f : Found) → first (is_2a s) 0 (suc g) ≡ f → (h : ℕ) × First2A s h
-    told (At h) e =
+    told : (f : Option ℕ) → first (is_2a s) 0 (suc g) ≡ f → (h : ℕ) × First2A s h
+    told (Some h) e =
         let spot = at_first (is_2a s) 0 (suc g) h e in
         (h, (is_2A s h spot.here, λ q l. not_2A s q (spot.before q (omega arith) l)))
-    told Nowhere e = absurd (not_2A s g (none_first (is_2a s) 0 (suc g) e g (omega arith) (omega arith)) t)
+    told None e = absurd (not_2A s g (none_first (is_2a s) 0 (suc g) e g (omega arith) (omega arith)) t)
 
 -- there is no other
 one-first : (s : List ℕ) (g h : ℕ) → First2A s g → First2A s h → g ≡ h

@@ -2,6 +2,7 @@
 -- `mark_of`; `encode` answers `encode_of` and leaves `out_of` in its buffer; a receiver's `step` is `step_of`; a group that is
 -- taken into the record makes it `updated_of`. `Bytes sheet` says that each is below 256, as in a slice of bytes.
 use Rattle.std.specs.Prelude.{ℕ, ◌+◌, ◌*◌, ◌/◌, ◌≤◌, ◌<◌, ◌≡◌, ◌↔◌, List, [], ◌∷◌, true, cond, length, take, drop, replicate}
+use Rattle.std.specs.Prelude.{Ok}
 use Rattle.bits.specs.Bytes.{bit_at, Bytes}
 use Rattle.blocks.specs.Damage.{block_bits, Damage}
 use Rattle.groups.specs.declared.Group.{Group}
@@ -17,7 +18,6 @@ use Rattle.keys.specs.Sheet.{key_at}
 use Rattle.keys.specs.Fields.{name_place, text_place, name_pairs, text_pairs, pi_of, pty_of, tp_of, wanted_of}
 use Rattle.keys.specs.Wanted.{text_size}
 use Rattle.keys.specs.Good.{name_size}
-use Rattle.encoder.specs.declared.Encoded.TheVariants.{Written}
 use Rattle.encoder.specs.Encoding.{size_of}
 use Rattle.encoder.specs.Answer.{encode_of, out_of}
 use Rattle.marker.specs.Verdict.{number_of, place_of}
@@ -46,7 +46,7 @@ PassedExactly =
 abbrev pub EncodedPasses : Type 0
 EncodedPasses =
     (sheet : List ℕ) (n : ℕ) (out : List ℕ) → Bytes sheet → KeyGood sheet n → size_of (key_at sheet n) ≤ length out →
-    (count : ℕ) × (encode_of sheet n (length out) ≡ Written count) × IsPassed sheet n (take count (out_of sheet n out))
+    (count : ℕ) × (encode_of sheet n (length out) ≡ Ok count) × IsPassed sheet n (take count (out_of sheet n out))
 
 -- ---- c. the receiver and the record
 

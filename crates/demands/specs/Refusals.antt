@@ -49,7 +49,7 @@ BufferStays number =
 pub record RowOne : Type 0 where
   pub mark : (sheet : List ℕ) (n : ℕ) (s : List ℕ) → Marked sheet n s 1 0 ↔ NoExercise sheet n
   pub place : (sheet : List ℕ) (n : ℕ) (s : List ℕ) (p : ℕ) → Marked sheet n s 1 p → p ≡ 0
-  pub key_of : (sheet : List ℕ) (n : ℕ) → (key_number_of (key_of sheet n).answer ≡ 1) ↔ NoExercise sheet n
+  pub key_of : (sheet : List ℕ) (n : ℕ) → (key_number_of (key_of sheet n) ≡ 1) ↔ NoExercise sheet n
   pub encode : (sheet : List ℕ) (n room : ℕ) → (encoded sheet n room ≡ 1) ↔ NoExercise sheet n
   pub encode_same : BufferStays 1
 
@@ -59,7 +59,7 @@ pub record RowTwo : Type 0 where
       → Marked sheet n s 2 0 ↔ ((NoExercise sheet n → ⊥) × (GoodKey (key_at sheet n) → ⊥))
   pub place : (sheet : List ℕ) (n : ℕ) (s : List ℕ) (p : ℕ) → Marked sheet n s 2 p → p ≡ 0
   pub key_of : (sheet : List ℕ) (n : ℕ)
-      → (key_number_of (key_of sheet n).answer ≡ 2) ↔ ((NoExercise sheet n → ⊥) × (GoodKey (key_at sheet n) → ⊥))
+      → (key_number_of (key_of sheet n) ≡ 2) ↔ ((NoExercise sheet n → ⊥) × (GoodKey (key_at sheet n) → ⊥))
   pub encode : (sheet : List ℕ) (n room : ℕ)
       → (encoded sheet n room ≡ 2) ↔ ((NoExercise sheet n → ⊥) × (GoodKey (key_at sheet n) → ⊥))
   pub encode_same : BufferStays 2

@@ -15,8 +15,9 @@ use Rattle.keys.specs.Wanted.{addresses_of}
 use Rattle.encoder.specs.Words.{words_at}
 use Rattle.encoder.specs.Encoding.{encoding, below, sent_of, size_of}
 use Rattle.encoder.specs.Answer.{encoded_number, too_short, encode_of, after_of, out_of}
-use Rattle.encoder.specs.declared.Encoded.{Encoded}
-use Rattle.encoder.specs.declared.Encoded.TheVariants.{Written, NoKey, BadKey, TooShort}
+use Rattle.std.specs.Prelude.{Result, Ok, Err}
+use Rattle.encoder.specs.declared.EncodeError.{EncodeError}
+use Rattle.encoder.specs.declared.EncodeError.TheVariants.{NoKey, BadKey, TooShort}
 use Rattle.encoder.proofs.EncodingLaws.{length_encoding, encoding_next}
 use Rattle.encoder.proofs.SentLaws.{length-below, length_sent}
 use Rattle.encoder.proofs.SizeLaws.{size_sent}
@@ -67,7 +68,7 @@ module _ (k d : List ℕ) where
 
   -- after the last one
   pub put_end : (a count : ℕ) (out : List ℕ) → out ≡ over_front (below a) → a ≤ count → count ≤ a
-      → count ≡ length (sent_of k) → out ≡ after_of (Written (size_of k)) k d
+      → count ≡ length (sent_of k) → out ≡ after_of (Ok (size_of k)) k d
   unfolding sent_of
   put_end a count out e most least sent =
       let all : a ≡ addresses_of k = omega (arith, length_sent k) in
@@ -76,18 +77,19 @@ module _ (k d : List ℕ) where
   -- ---- a key's answer, by the room
 
   pub key_short : length d < size_of k
-      → (TooShort ≡ cond (too_short k (length d)) TooShort (Written (size_of k))) × (d ≡ after_of TooShort k d)
+      → (Err TooShort ≡ cond (too_short k (length d)) (Err TooShort) (Ok (size_of k)))
+      × (d ≡ after_of (Err TooShort) k d)
   unfolding too_short
   key_short l = (rw (lt-ltb (length d) (size_of k) l), refl)
 
   pub key_written : (size : ℕ) (after : List ℕ) → size ≡ size_of k → size ≤ length d
-      → after ≡ after_of (Written (size_of k)) k d
-      → (Written size ≡ cond (too_short k (length d)) TooShort (Written (size_of k)))
-      × (after ≡ after_of (Written size) k d)
+      → after ≡ after_of (Ok (size_of k)) k d
+      → (Ok size ≡ cond (too_short k (length d)) (Err TooShort) (Ok (size_of k)))
+      × (after ≡ after_of (Ok size) k d)
   unfolding too_short
   key_written size after e l f =
       let room : size_of k ≤ length d = omega arith in
-      (rw (le-ltb (length d) (size_of k) room) (ap Written e), f ∙ ap (λ (m : ℕ). after_of (Written m) k d) (sym e))
+      (rw (le-ltb (length d) (size_of k) room) (ap Ok e), f ∙ ap (λ (m : ℕ). after_of (Ok m) k d) (sym e))
 
 -- ---- the whole of it at the end
 
@@ -97,11 +99,9 @@ module _ (sheet : List ℕ) (n : ℕ) (out : List ℕ) where
   unfolding out_of
   refused-same f = told (encode_of sheet n (length out)) f
     where
-      told : (r : Encoded) → (encoded_number r ≡ 0 → ⊥) → after_of r (key_at sheet n) out ≡ out
-      told (Written count) f = absurd (f refl)
-      told NoKey f = refl
-      told BadKey f = refl
-      told TooShort f = refl
+      told : (r : Result ℕ EncodeError) → (encoded_number r ≡ 0 → ⊥) → after_of r (key_at sheet n) out ≡ out
+      told (Ok count) f = absurd (f refl)
+      told (Err error) f = refl
 
   -- else it is the encoding, and the bytes beyond as they were
   pub written_out : HasExercise sheet n → GoodKey (key_at sheet n) → size_of (key_at sheet n) ≤ length out

@@ -2,14 +2,14 @@
 // Refused: no such exercise (1), a key that is not good (2), a buffer too short (8). The buffer is then as it was.
 #![tactic(auto)]
 
-ghost use Rattle.std.specs.Prelude.{◌≡◌, cond, ◌<◌, ◌≤◌, length};
+ghost use Rattle.std.specs.Prelude.{◌≡◌, Ok, Err, cond, ◌<◌, ◌≤◌, length};
 ghost use Rattle.keys.specs.Wanted.{all_addresses};
-ghost use Rattle.encoder.specs.Words.{text_type, tp_bit, word2_of, name_words, text_words, words_at};
+ghost use Rattle.encoder.specs.Words.{text_type, word2_of, name_words, text_words, words_at};
 ghost use Rattle.encoder.specs.Encoding.{sent_of, size_of};
-ghost use Rattle.encoder.specs.Answer.{encoded_number, encoded_values, too_short};
+ghost use Rattle.encoder.specs.Answer.{refused, encoded_number, encoded_values, too_short};
 ghost use Rattle.encoder.specs.Answer.{encode_of, encode_number, encode_values, after_of, out_of};
 
-use keys::{Key, KeyAnswer};
+use keys::{Key, KeyError, NAME_ADDRESSES};
 
 // The type of 0A.
 const NAME_TYPE: u16 = 0;
@@ -29,52 +29,51 @@ const PTY_AT: u16 = 32;
 // Word 3 of 0A: no AF.
 const NO_FREQUENCIES: u16 = 0xE0CD;
 
-// Addresses of a name.
-const NAME_ADDRESSES: u8 = 4;
-
 // Bytes of a group.
 const GROUP_SIZE: usize = 13;
 
-// The answers 0, with the number of bytes written, 1, 2 and 8.
-#[derive(Clone, Copy)]
-pub enum Encoded {
-    Written(usize),
+// Why nothing was written: refusals 1, 2 and 8.
+#[derive(Clone, Copy, PartialEq, Eq)]
+pub enum EncodeError {
     NoKey,
     BadKey,
     TooShort,
 }
 
-// The groups of an exercise's key at the front of a buffer; the bytes beyond stay.
-pub fn encode(sheet: &[u8], exercise: usize, out: &mut [u8]) -> Encoded
+impl From<KeyError> for EncodeError {
+    ghost from_gives = { λ error e. e ≡ refused error };
+
+    fn from(error: KeyError) -> EncodeError {
+        match error {
+            KeyError::NoKey => EncodeError::NoKey,
+            KeyError::BadKey => EncodeError::BadKey,
+        }
+    }
+}
+
+// The groups of an exercise's key at the front of a buffer, and how many bytes they take; the bytes beyond stay.
+pub fn encode(sheet: &[u8], exercise: usize, out: &mut [u8]) -> Result<usize, EncodeError>
     ensures { (result ≡ encode_of sheet.now exercise (length out.old))
         × (encoded_number result ≡ encode_number sheet.now exercise (length out.old))
         × (encoded_values result ≡ encode_values sheet.now exercise (length out.old))
         × (out.new ≡ out_of sheet.now exercise out.old) }
 {
-    let asked = keys::key_of(sheet, exercise);
-    let answer = asked.answer;
-    match answer {
-        KeyAnswer::NoKey => Encoded::NoKey,
-        KeyAnswer::BadKey => Encoded::BadKey,
-        KeyAnswer::Good => {
-            let key = asked.key;
-            encode_key(key, out)
-        }
-    }
+    let key = keys::key_of(sheet, exercise)?;
+    encode_key(key, out)
 }
 
 // The groups of a key at the front of a buffer, where it has room.
-fn encode_key(key: Key, out: &mut [u8]) -> Encoded
-    ensures { (result ≡ cond (too_short key.bytes (length out.old)) Encoded.TooShort
-        (Encoded.Written (size_of key.bytes)))
+fn encode_key(key: Key, out: &mut [u8]) -> Result<usize, EncodeError>
+    ensures { (result ≡ cond (too_short key.bytes (length out.old)) (Err EncodeError.TooShort)
+        (Ok (size_of key.bytes)))
         × (out.new ≡ after_of result key.bytes out.old) }
 {
-    let size = GROUP_SIZE * (sent(key) as usize);
+    let size = GROUP_SIZE * usize::from(sent(key));
     if out.len() < size {
-        return Encoded::TooShort;
+        return Err(EncodeError::TooShort);
     }
     put_groups(key, out);
-    Encoded::Written(size)
+    Ok(size)
 }
 
 // How many addresses are sent, from 0.
@@ -88,14 +87,15 @@ fn sent(key: Key) -> u8
 fn put_groups(key: Key, out: &mut [u8])
     requires { size_of key.bytes ≤ length out.old }
     ensures { out.new
-        ≡ after_of (Encoded.Written (size_of key.bytes)) key.bytes out.old }
+        ≡ after_of (Ok (size_of key.bytes)) key.bytes out.old }
 {
-    let count = sent(key);
-    let mut address: u8 = 0;
-    while address < count {
-        let words = words_at(key, address);
-        groups::bytes::put_at(words, out, GROUP_SIZE * (address as usize)).unwrap();
-        address += 1;
+    for address in 0..sent(key) {
+        groups::bytes::put_at(
+            words_at(key, address),
+            out,
+            GROUP_SIZE * usize::from(address),
+        )
+        .unwrap();
     }
 }
 
@@ -142,12 +142,6 @@ fn word2(number: u16, key: Key, low: u8) -> u16
     requires { (number ≤ text_type) × (low < 32) }
     ensures { result ≡ word2_of number key.bytes low }
 {
-    number * TYPE_AT + tp_bit(key) * TP_AT + (keys::pty(key) as u16) * PTY_AT + (low as u16)
-}
-
-// TP as a bit.
-fn tp_bit(key: Key) -> u16
-    ensures { (result ≡ tp_bit key.bytes) × (result ≤ 1) }
-{
-    if keys::tp(key) { 1 } else { 0 }
+    let tp = u16::from(keys::tp(key));
+    number * TYPE_AT + tp * TP_AT + u16::from(keys::pty(key)) * PTY_AT + u16::from(low)
 }

@@ -1,15 +1,17 @@
 -- A key is good exactly if the test says so. A run of bytes passes `all_good` exactly if each byte of it passes, and
 -- each of the five tests is turned into its line of the rule.
 use Prim.Native.Nat.{ℕ, zero, suc, ◌+◌, ◌≤◌, ◌<◌}
-use mathlib.Core.Path.{◌≡◌, refl}
+use mathlib.Core.Path.{◌≡◌, refl, sym, ◌∙◌}
 use mathlib.Core.List.{List}
-use mathlib.Core.Bool.{Bool, true, false, ◌&&◌, and-eq-true_iff}
+use mathlib.Core.Bool.{Bool, true, false, ◌&&◌, and-eq-true_iff, true≢false}
 use mathlib.Core.Logic.{⊎_elim}
 use native.Mathlib.Nat.{eq-or-lt_of_le, le_of_suc-le-suc, not-suc-le-zero}
-use native.Mathlib.Numerals.{add-one}
 use native.Mathlib.Omega.{arith}
-use lib.ListN.{get_or}
+use lib.ListN.{length, get_or, take, drop, length-drop}
+use lib.Seq.{length-take-le, get_or-take, get_or-drop}
 use lib.Dec.{ltb, leb}
+use Rattle.std.specs.Prelude.{MatchBool}
+use Rattle.std.specs.List.{AllWithin, HoldsAt}
 use borrow.Author.Tests.{leb-true, le-leb, ltb-true, lt-ltb, eqb-true, eq-eqb}
 use Rattle.keys.specs.Fields.{name_place, text_place, last_place, name_byte, text_byte, last_byte}
 use Rattle.keys.specs.Fields.{pty_of, flags_of, wanted_of}
@@ -50,14 +52,35 @@ module _ (shown : Bool) (k : List ℕ) (at : ℕ) where
   at_all_good zero each = refl
   at_all_good (suc n) each = rw (at_all_good n (λ i l. each i (omega arith)), each n (omega arith))
 
-  -- the run with one byte more, and the whole run, as a loop over its bytes has them
-  pub all_good_more : (i : ℕ) (good next : Bool) → good ≡ all_good shown k at i
-      → next ≡ byte_good shown (get_or k (at + i) 0) → (good && next) ≡ all_good shown k at (i + 1)
-  unfolding all_good
-  all_good_more i good next e f = rw (add-one i, e, f)
+  -- one that is not good is enough
+  not_all_good : (n i : ℕ) → i < n → byte_good shown (get_or k (at + i) 0) ≡ false
+      → (b : Bool) → all_good shown k at n ≡ b → false ≡ all_good shown k at n
+  not_all_good n i l bad true e = absurd (true≢false (sym (all_good_at n e i l) ∙ bad))
+  not_all_good n i l bad false e = sym e
 
-  pub all_good_end : (i n : ℕ) (good : Bool) → good ≡ all_good shown k at i → i ≤ n → n ≤ i → good ≡ all_good shown k at n
-  all_good_end i n good e most least = let end : n ≡ i = omega arith in rw end e
+  -- what a search of the slice of these bytes found: each is good, or there is one that is not
+  pub all_good_slice : (n : ℕ) (good : Bool) → at + n ≤ length k
+      → MatchBool good (AllWithin (λ x. byte_good shown x ≡ true) (take n (drop at k)) 0 (length (take n (drop at k))))
+      ((i : ℕ) × (i < length (take n (drop at k))) × HoldsAt (λ x. byte_good shown x ≡ false) (take n (drop at k)) i)
+      → good ≡ all_good shown k at n
+  all_good_slice n good room found = by_test good found
+    where
+      size : length (take n (drop at k)) ≡ n
+      size = length-take-le n (drop at k) (rw length-drop (omega arith))
+
+      there : (i : ℕ) → i < n → get_or (take n (drop at k)) i 0 ≡ get_or k (at + i) 0
+      there i l = get_or-take n (drop at k) i 0 l ∙ get_or-drop at k i 0
+
+      by_test : (b : Bool)
+          → MatchBool b (AllWithin (λ x. byte_good shown x ≡ true) (take n (drop at k)) 0 (length (take n (drop at k))))
+          ((i : ℕ) × (i < length (take n (drop at k))) × HoldsAt (λ x. byte_good shown x ≡ false) (take n (drop at k)) i)
+          → b ≡ all_good shown k at n
+      by_test true each =
+          sym (at_all_good n (λ i l. rw (there i l) at (each i 0 (omega arith) (rw size l))))
+      by_test false one =
+          let l : one.0 < n = rw size at one.1 in
+          let bad : byte_good shown (get_or k (at + one.0) 0) ≡ false = rw (there one.0 l) at (one.2 0) in
+          not_all_good n one.0 l bad (all_good shown k at n) refl
 
 -- ---- a key
 

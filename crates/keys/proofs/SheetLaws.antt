@@ -70,23 +70,3 @@ module _ (sheet : List ℕ) (n : ℕ) where
       split : Dec (i < record_size) → get_or (key_at sheet n) i 0 < 256
       split (yes l) = rw (key_byte i l) (bytes (record_size * n + i))
       split (no f) = rw (key-end i (omega arith)) (omega arith)
-
--- ---- a record copied byte by byte over a list d of 80
-
--- after i bytes
-abbrev pub copied : List ℕ → List ℕ → ℕ → ℕ → List ℕ
-copied sheet d from i = take i (drop from sheet) ++ drop i d
-
-module _ (sheet d : List ℕ) (from i : ℕ) where
-  pub copy_more : from + i < length sheet → i < length d
-      → set (copied sheet d from i) i (get_or sheet (from + i) 0) ≡ copied sheet d from (i + 1)
-  copy_more within room =
-      let turn = paste-suc d 0 (drop from sheet) i 0 (rw (zero-add i) room) (rw length-drop (omega arith)) in
-      rw (← get_or-drop from sheet i 0, add-one i) (rw (zero-add i, zero-add (suc i)) at turn)
-
-  pub copy_end : (bytes : List ℕ) → bytes ≡ copied sheet d from i → length d ≡ record_size
-      → i ≤ record_size → record_size ≤ i → bytes ≡ take record_size (drop from sheet)
-  copy_end bytes e room most least =
-      let end : i ≡ record_size = omega arith in
-      let full : length d ≤ record_size = omega arith in
-      e ∙ rw (end, drop_of_length-le d full) (append-nil (take record_size (drop from sheet)))

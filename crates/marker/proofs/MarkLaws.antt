@@ -1,17 +1,16 @@
 -- The whole table: the answer for each answer to the question for a key, and the columns "No." and "Place".
+use Rattle.std.specs.Prelude.{Option, Some, None, Result, Ok, Err}
 use Prim.Native.Nat.{ℕ}
-use mathlib.Core.Path.{◌≡◌, refl, ap, ◌∙◌}
+use mathlib.Core.Path.{◌≡◌, refl, sym, ap, ◌∙◌}
 use mathlib.Core.List.{List}
 use mathlib.Core.Bool.{Bool, true, false, not, cond}
 use native.Mathlib.Omega.{arith}
-use Rattle.keys.specs.declared.Asked.{Asked}
-use Rattle.keys.specs.declared.KeyAnswer.TheVariants as key
+use Rattle.keys.specs.declared.Key.{Key}
+use Rattle.keys.specs.declared.KeyError.{KeyError}
+use Rattle.keys.specs.declared.KeyError.TheVariants as key
 use Rattle.keys.specs.Sheet.{no_key, key_at}
 use Rattle.keys.specs.Good.{key_good}
-use Rattle.keys.specs.Asked.{zeros, asked, key_of}
-use Rattle.keys.proofs.AnswerLaws.{asked_none, asked_bad, asked_good}
-use Rattle.marker.specs.declared.checks.Found.{Found}
-use Rattle.marker.specs.declared.checks.Found.TheVariants.{At, Nowhere}
+use Rattle.keys.specs.Asked.{given, key_of}
 use Rattle.marker.specs.declared.Verdict.{Verdict}
 use Rattle.marker.specs.declared.Verdict.TheVariants.{Passed, NoKey, BadKey, BadLength, BadBlock, BadHeader}
 use Rattle.marker.specs.declared.Verdict.TheVariants.{BadContent, Missing}
@@ -24,7 +23,7 @@ use Rattle.marker.specs.Mark.{submission_mark, mark_of, mark_number, mark_place}
 -- ---- the columns
 
 -- the table over its tests
-abbrev table : Bool → Bool → Bool → Found → Found → (ℕ → Bool) → Found → Verdict
+abbrev table : Bool → Bool → Bool → Option ℕ → Option ℕ → (ℕ → Bool) → Option ℕ → Verdict
 table a b c block group header address =
     cond a NoKey
     (cond (not b) BadKey
@@ -47,16 +46,16 @@ module _ (sheet : List ℕ) (n : ℕ) (s : List ℕ) where
       told (no_key sheet n) (key_good (key_at sheet n)) (length_wrong s) (first_bad_block s) (first_bad_group (key_at sheet n) s)
       (header_wrong_at (key_at sheet n) s) (first_missing (key_at sheet n) s)
     where
-      told : (a b c : Bool) (x y : Found) (h : ℕ → Bool) (z : Found) → number_of (table a b c x y h z)
+      told : (a b c : Bool) (x y : Option ℕ) (h : ℕ → Bool) (z : Option ℕ) → number_of (table a b c x y h z)
           ≡ cond a 1 (cond (not b) 2 (cond c 3 (on_found x (λ _. 4)
           (on_found y (λ g. cond (h g) 5 6) (on_found z (λ _. 7) 0)))))
       told true b c x y h z = refl
       told false false c x y h z = refl
       told false true true x y h z = refl
-      told false true false (At j) y h z = refl
-      told false true false Nowhere (At g) h z = group-number (h g) g
-      told false true false Nowhere Nowhere h (At a) = refl
-      told false true false Nowhere Nowhere h Nowhere = refl
+      told false true false (Some j) y h z = refl
+      told false true false None (Some g) h z = group-number (h g) g
+      told false true false None None h (Some a) = refl
+      told false true false None None h None = refl
 
   pub mark_place_lem : place_of (mark_of sheet n s) ≡ mark_place sheet n s
   unfolding mark_of submission_mark content_mark group_mark mark_place
@@ -64,15 +63,15 @@ module _ (sheet : List ℕ) (n : ℕ) (s : List ℕ) where
       told (no_key sheet n) (key_good (key_at sheet n)) (length_wrong s) (first_bad_block s) (first_bad_group (key_at sheet n) s)
       (header_wrong_at (key_at sheet n) s) (first_missing (key_at sheet n) s)
     where
-      told : (a b c : Bool) (x y : Found) (h : ℕ → Bool) (z : Found) → place_of (table a b c x y h z)
+      told : (a b c : Bool) (x y : Option ℕ) (h : ℕ → Bool) (z : Option ℕ) → place_of (table a b c x y h z)
           ≡ cond a 0 (cond (not b) 0 (cond c 0 (on_found x (λ j. j) (on_found y (λ g. g) (on_found z (λ a. a) 0)))))
       told true b c x y h z = refl
       told false false c x y h z = refl
       told false true true x y h z = refl
-      told false true false (At j) y h z = refl
-      told false true false Nowhere (At g) h z = group-place (h g) g
-      told false true false Nowhere Nowhere h (At a) = refl
-      told false true false Nowhere Nowhere h Nowhere = refl
+      told false true false (Some j) y h z = refl
+      told false true false None (Some g) h z = group-place (h g) g
+      told false true false None None h (Some a) = refl
+      told false true false None None h None = refl
 
   -- what `mark` promises
   abbrev pub Settled : Verdict → Type 0
@@ -83,45 +82,31 @@ module _ (sheet : List ℕ) (n : ℕ) (s : List ℕ) where
 
   -- ---- by the answer to the question for a key
 
-  module _ (r : Asked) (e : r ≡ key_of sheet n) where
-    pub mark_no_key : r.answer ≡ key.NoKey → Settled NoKey
-    unfolding mark_of
-    mark_no_key f = settled NoKey (told (no_key sheet n) refl (key_good (key_at sheet n)) refl)
-      where
-        told : (a : Bool) → no_key sheet n ≡ a → (b : Bool) → key_good (key_at sheet n) ≡ b → NoKey ≡ mark_of sheet n s
-        told true x b y = rw x
-        told false x true y =
-            let g : r ≡ asked key.Good (key_at sheet n) = e ∙ asked_good sheet n x y in
-            absurd (let z : ◌≡◌ {A = ℕ} 0 1 = cc in omega arith)
-        told false x false y =
-            let g : r ≡ asked key.BadKey zeros = e ∙ asked_bad sheet n x y in
-            absurd (let z : ◌≡◌ {A = ℕ} 0 1 = cc in omega arith)
+  abbrev by_key : Result Key KeyError → Verdict
+  by_key (Ok k) = submission_mark k.bytes s
+  by_key (Err key.NoKey) = NoKey
+  by_key (Err key.BadKey) = BadKey
 
-    pub mark_bad_key : r.answer ≡ key.BadKey → Settled BadKey
-    unfolding mark_of
-    mark_bad_key f = settled BadKey (told (no_key sheet n) refl (key_good (key_at sheet n)) refl)
-      where
-        told : (a : Bool) → no_key sheet n ≡ a → (b : Bool) → key_good (key_at sheet n) ≡ b → BadKey ≡ mark_of sheet n s
-        told true x b y =
-            let g : r ≡ asked key.NoKey zeros = e ∙ asked_none sheet n x in
-            absurd (let z : ◌≡◌ {A = ℕ} 0 1 = cc in omega arith)
-        told false x true y =
-            let g : r ≡ asked key.Good (key_at sheet n) = e ∙ asked_good sheet n x y in
-            absurd (let z : ◌≡◌ {A = ℕ} 0 1 = cc in omega arith)
-        told false x false y = rw (x, y)
+  by_key_of : by_key (key_of sheet n) ≡ mark_of sheet n s
+  unfolding key_of mark_of
+  by_key_of = told (no_key sheet n) (key_good (key_at sheet n)) (key_at sheet n)
+    where
+      told : (a b : Bool) (k : List ℕ)
+          → by_key (cond a (Err key.NoKey) (cond (not b) (Err key.BadKey) (given k)))
+          ≡ cond a NoKey (cond (not b) BadKey (submission_mark k s))
+      told true b k = refl
+      told false true k = refl
+      told false false k = refl
 
-    pub mark_good_key : r.answer ≡ key.Good → (v : Verdict) → v ≡ submission_mark r.key.bytes s → Settled v
-    unfolding mark_of
-    mark_good_key f v d = settled v (d ∙ told (no_key sheet n) refl (key_good (key_at sheet n)) refl)
-      where
-        told : (a : Bool) → no_key sheet n ≡ a → (b : Bool) → key_good (key_at sheet n) ≡ b
-            → submission_mark r.key.bytes s ≡ mark_of sheet n s
-        told true x b y =
-            let g : r ≡ asked key.NoKey zeros = e ∙ asked_none sheet n x in
-            absurd (let z : ◌≡◌ {A = ℕ} 0 1 = cc in omega arith)
-        told false x true y =
-            let g : r.key.bytes ≡ key_at sheet n = ap (λ (a : Asked). a.key.bytes) (e ∙ asked_good sheet n x y) in
-            rw (x, y, g)
-        told false x false y =
-            let g : r ≡ asked key.BadKey zeros = e ∙ asked_bad sheet n x y in
-            absurd (let z : ◌≡◌ {A = ℕ} 0 1 = cc in omega arith)
+  module _ (r : Result Key KeyError) (e : r ≡ key_of sheet n) where
+    by_answer : (v : Verdict) → by_key r ≡ v → Settled v
+    by_answer v f = settled v (sym f ∙ ap by_key e ∙ by_key_of)
+
+    pub mark_no_key : r ≡ Err key.NoKey → Settled NoKey
+    mark_no_key f = by_answer NoKey (ap by_key f)
+
+    pub mark_bad_key : r ≡ Err key.BadKey → Settled BadKey
+    mark_bad_key f = by_answer BadKey (ap by_key f)
+
+    pub mark_good_key : (k : Key) → r ≡ Ok k → (v : Verdict) → v ≡ submission_mark k.bytes s → Settled v
+    mark_good_key k f v d = by_answer v (ap by_key f ∙ sym d)

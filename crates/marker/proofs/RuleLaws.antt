@@ -1,5 +1,6 @@
 -- Each test of the table says no exactly if its rule holds. Every test is taken apart into its parts, and each part
 -- is turned into the fact that the rule states.
+use Rattle.std.specs.Prelude.{Option, Some, None}
 use Prim.Native.Nat.{ℕ, zero, suc, ◌+◌, ◌*◌, ◌/◌, ◌%◌, ◌<◌, ◌≤◌}
 use mathlib.Core.Path.{◌≡◌, refl, sym, ap, subst, ◌∙◌}
 use mathlib.Core.List.{List}
@@ -23,8 +24,6 @@ use Rattle.groups.specs.declared.fields.Content.TheVariants.{Text2A, Text2B, Clo
 use Rattle.groups.proofs.Contents.{content_0A, content_0B, content_2A, content_2B}
 use Rattle.keys.specs.Fields.{pi_of, pty_of, tp_of, name_pair_of, text_pair_of}
 use Rattle.keys.specs.Wanted.{wanted_address}
-use Rattle.marker.specs.declared.checks.Found.{Found}
-use Rattle.marker.specs.declared.checks.Found.TheVariants.{At, Nowhere}
 use Rattle.marker.specs.First.{first}
 use Rattle.marker.specs.Submission.{word_at, kind_at, content_at}
 use Rattle.marker.specs.Tests.{empty_length, submission_limit, length_wrong, block_wrong, header_wrong}
@@ -198,12 +197,12 @@ module _ (s : List ℕ) (g : ℕ) (t : Is2A s g) where
   unfolding first_flag unlike
   right-flag r = told (first (is_2a s) 0 g) refl
     where
-      told : (f : Found) → first (is_2a s) 0 g ≡ f → unlike (first_flag s g) (text_flag (word_at s g 1)) ≡ false
-      told (At h) e =
+      told : (f : Option ℕ) → first (is_2a s) 0 g ≡ f → unlike (first_flag s g) (text_flag (word_at s g 1)) ≡ false
+      told (Some h) e =
           let spot = at_first (is_2a s) 0 g h e in
           let f : First2A s h = (is_2A s h spot.here, λ q m. not_2A s q (spot.before q (omega arith) m)) in
           rw (e, r h f, beq_same (text_flag (word_at s h 1)))
-      told Nowhere e = rw e
+      told None e = rw e
 
 -- ---- the content
 

@@ -1,5 +1,6 @@
 -- The table over the rules: the answer that is given is the one whose conditions hold, and no other answer's do. Each
 -- test is decided; where it says no its rule holds, and where it says yes the rule fails at the first place found.
+use Rattle.std.specs.Prelude.{Option, Some, None}
 use Prim.Native.Nat.{ℕ, zero, suc, ◌+◌, ◌*◌, ◌<◌, ◌≤◌}
 use mathlib.Core.Path.{◌≡◌, refl, sym, ap, ap₂, subst, ◌∙◌}
 use mathlib.Core.List.{List, []}
@@ -16,8 +17,6 @@ use Rattle.keys.proofs.SheetLaws.{has_exercise, exercise_has, key_byte}
 use Rattle.keys.proofs.GoodLaws.{good_key, key_good_lem}
 use Rattle.keys.proofs.AnswerLaws.{exercise_dec, good_dec}
 use Rattle.keys.proofs.WantedLaws.{address_wanted, wanted_address_lem}
-use Rattle.marker.specs.declared.checks.Found.{Found}
-use Rattle.marker.specs.declared.checks.Found.TheVariants.{At, Nowhere}
 use Rattle.marker.specs.declared.Verdict.{Verdict}
 use Rattle.marker.specs.declared.Verdict.TheVariants.{Passed, NoKey, BadKey, BadLength, BadBlock, BadHeader}
 use Rattle.marker.specs.declared.Verdict.TheVariants.{BadContent, Missing}
@@ -52,12 +51,12 @@ module _ (s : List ℕ) (n : ℕ) where
       → (g h : ℕ) → g < n → h < n → Is2A s g → Is2A s h → SameFlag s g h
   flags_alike right g h l m t u = told (first (is_2a s) 0 n) refl
     where
-      told : (f : Found) → first (is_2a s) 0 n ≡ f → SameFlag s g h
-      told (At i) e =
+      told : (f : Option ℕ) → first (is_2a s) 0 n ≡ f → SameFlag s g h
+      told (Some i) e =
           let spot = at_first (is_2a s) 0 n i e in
           let f : First2A s i = (is_2A s i spot.here, λ q b. not_2A s q (spot.before q (omega arith) b)) in
           right g l t i f ∙ sym (right h m u i f)
-      told Nowhere e = absurd (not_2A s g (none_first (is_2a s) 0 n e g (omega arith) (omega arith)) t)
+      told None e = absurd (not_2A s g (none_first (is_2a s) 0 n e g (omega arith) (omega arith)) t)
 
   pub alike_flags : ((g h : ℕ) → g < n → h < n → Is2A s g → Is2A s h → SameFlag s g h)
       → (g : ℕ) → g < n → Is2A s g → (h : ℕ) → First2A s h → SameFlag s g h
@@ -76,53 +75,53 @@ module _ (sheet : List ℕ) (n : ℕ) (s : List ℕ) where
     is-length e = rw (there, good, e)
 
     module _ (long : length_wrong s ≡ false) where
-      is_block : (j : ℕ) → first_bad_block s ≡ At j → mark_of sheet n s ≡ BadBlock j
+      is_block : (j : ℕ) → first_bad_block s ≡ Some j → mark_of sheet n s ≡ BadBlock j
       unfolding mark_of submission_mark
       is_block j e = rw (there, good, long, e)
 
-      module _ (valid : first_bad_block s ≡ Nowhere) where
-        is-header : (g : ℕ) → first_bad_group k s ≡ At g → header_wrong_at k s g ≡ true → mark_of sheet n s ≡ BadHeader g
+      module _ (valid : first_bad_block s ≡ None) where
+        is-header : (g : ℕ) → first_bad_group k s ≡ Some g → header_wrong_at k s g ≡ true → mark_of sheet n s ≡ BadHeader g
         unfolding mark_of submission_mark content_mark group_mark
         is-header g e h = rw (there, good, long, valid, e, h)
 
-        is-content : (g : ℕ) → first_bad_group k s ≡ At g → header_wrong_at k s g ≡ false → mark_of sheet n s ≡ BadContent g
+        is-content : (g : ℕ) → first_bad_group k s ≡ Some g → header_wrong_at k s g ≡ false → mark_of sheet n s ≡ BadContent g
         unfolding mark_of submission_mark content_mark group_mark
         is-content g e h = rw (there, good, long, valid, e, h)
 
-        is-missing : first_bad_group k s ≡ Nowhere → (a : ℕ) → first_missing k s ≡ At a → mark_of sheet n s ≡ Missing a
+        is-missing : first_bad_group k s ≡ None → (a : ℕ) → first_missing k s ≡ Some a → mark_of sheet n s ≡ Missing a
         unfolding mark_of submission_mark content_mark
         is-missing e a f = rw (there, good, long, valid, e, f)
 
-        is_passed : first_bad_group k s ≡ Nowhere → first_missing k s ≡ Nowhere → mark_of sheet n s ≡ Passed
+        is_passed : first_bad_group k s ≡ None → first_missing k s ≡ None → mark_of sheet n s ≡ Passed
         unfolding mark_of submission_mark content_mark
         is_passed e f = rw (there, good, long, valid, e, f)
 
   -- ---- the searches over the rules
 
-  blocks-right : first_bad_block s ≡ Nowhere → BlocksRight s
+  blocks-right : first_bad_block s ≡ None → BlocksRight s
   unfolding first_bad_block
   blocks-right e j l = block_right s j (none_first (block_wrong s) 0 (blocks_in s) e j (omega arith) (omega arith))
 
-  right-blocks : BlocksRight s → first_bad_block s ≡ Nowhere
+  right-blocks : BlocksRight s → first_bad_block s ≡ None
   unfolding first_bad_block
   right-blocks r = first_none (block_wrong s) 0 (blocks_in s) (λ j _ l. right_block s j (r j (omega arith)))
 
-  groups-right : first_bad_group k s ≡ Nowhere → GroupsRight k s
+  groups-right : first_bad_group k s ≡ None → GroupsRight k s
   unfolding first_bad_group
   groups-right e g l = group_right k s g (none_first (group_wrong k s) 0 (groups_in s) e g (omega arith) (omega arith))
 
-  right-groups : GroupsRight k s → first_bad_group k s ≡ Nowhere
+  right-groups : GroupsRight k s → first_bad_group k s ≡ None
   unfolding first_bad_group
   right-groups r = first_none (group_wrong k s) 0 (groups_in s) (λ g _ l. right_group k s g (r g (omega arith)))
 
-  all-came : first_missing k s ≡ Nowhere → (a : ℕ) → wanted_address k a ≡ true → Came s a
+  all-came : first_missing k s ≡ None → (a : ℕ) → wanted_address k a ≡ true → Came s a
   unfolding first_missing
   all-came e a w =
       came-some s (groups_in s) a
       (not-false _ (none_first (λ a. not (came s (groups_in s) a)) 0 (addresses_of k) e a (omega arith)
       (omega (arith, wanted_address_lem k a w))))
 
-  came-all : ((a : ℕ) → wanted_address k a ≡ true → Came s a) → first_missing k s ≡ Nowhere
+  came-all : ((a : ℕ) → wanted_address k a ≡ true → Came s a) → first_missing k s ≡ None
   unfolding first_missing
   came-all r =
       first_none (λ a. not (came s (groups_in s) a)) 0 (addresses_of k)
@@ -165,11 +164,11 @@ module _ (sheet : List ℕ) (n : ℕ) (s : List ℕ) where
     key : KeyGood sheet n
     key = (has_exercise sheet n there, good_key k good)
 
-    module _ (long : length_wrong s ≡ false) (valid : first_bad_block s ≡ Nowhere) where
-      told-address : (f : Found) → first_bad_group k s ≡ Nowhere → first_missing k s ≡ f → Told sheet n s
+    module _ (long : length_wrong s ≡ false) (valid : first_bad_block s ≡ None) where
+      told-address : (f : Option ℕ) → first_bad_group k s ≡ None → first_missing k s ≡ f → Told sheet n s
           (mark_of sheet n s)
       unfolding Told first_missing
-      told-address (At a) e f =
+      told-address (Some a) e f =
           let spot = at_first (λ a. not (came s (groups_in s) a)) 0 (addresses_of k) a f in
           given (Missing a) (is-missing there good long valid e a f) (
             key,
@@ -181,13 +180,13 @@ module _ (sheet : List ℕ) (n : ℕ) (s : List ℕ) where
             λ c. yes_no _ (some-came s (groups_in s) a c.0 c.1 c.2) (not-true _ spot.here),
             λ b l w. came-some s (groups_in s) b (not-false _ (spot.before b (omega arith) l)),
           )
-      told-address Nowhere e f =
+      told-address None e f =
           given Passed (is_passed there good long valid e f)
           (key, length_right s long, rules-of (blocks-right valid) (groups-right e) (all-came f))
 
-      told-group : (f : Found) → first_bad_group k s ≡ f → Told sheet n s (mark_of sheet n s)
+      told-group : (f : Option ℕ) → first_bad_group k s ≡ f → Told sheet n s (mark_of sheet n s)
       unfolding Told first_bad_group
-      told-group (At g) e =
+      told-group (Some g) e =
           let spot = at_first (group_wrong k s) 0 (groups_in s) g e in
           let earlier : (h : ℕ) → h < g → GroupRight k s h = λ h l. group_right k s h
           (spot.before h (omega arith) l) in
@@ -209,11 +208,11 @@ module _ (sheet : List ℕ) (n : ℕ) (s : List ℕ) where
                 (λ r. wrong (header_right k s g h, r)),
                 earlier,
               )
-      told-group Nowhere e = told-address (first_missing k s) e refl
+      told-group None e = told-address (first_missing k s) e refl
 
-    told-block : length_wrong s ≡ false → (f : Found) → first_bad_block s ≡ f → Told sheet n s (mark_of sheet n s)
+    told-block : length_wrong s ≡ false → (f : Option ℕ) → first_bad_block s ≡ f → Told sheet n s (mark_of sheet n s)
     unfolding Told first_bad_block
-    told-block long (At j) e =
+    told-block long (Some j) e =
         let spot = at_first (block_wrong s) 0 (blocks_in s) j e in
         given (BadBlock j) (is_block there good long j e) (
           key,
@@ -222,7 +221,7 @@ module _ (sheet : List ℕ) (n : ℕ) (s : List ℕ) where
           (λ r. yes_no _ spot.here (right_block s j r)),
           λ i l. block_right s i (spot.before i (omega arith) l),
         )
-    told-block long Nowhere e = told-group long e (first_bad_group k s) refl
+    told-block long None e = told-group long e (first_bad_group k s) refl
 
     told-length : (b : Bool) → length_wrong s ≡ b → Told sheet n s (mark_of sheet n s)
     unfolding Told
@@ -253,7 +252,7 @@ module _ (sheet : List ℕ) (n : ℕ) (s : List ℕ) where
     good-is = key_good_lem k h.1
 
   first_group : (g : ℕ) → g < groups_in s → (GroupRight k s g → ⊥) → ((h : ℕ) → h < g → GroupRight k s h)
-      → first_bad_group k s ≡ At g
+      → first_bad_group k s ≡ Some g
   unfolding first_bad_group
   first_group g l wrong earlier =
       first_at (group_wrong k s) 0 (groups_in s) g

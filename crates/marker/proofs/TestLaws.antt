@@ -1,4 +1,5 @@
 -- The tests as the marker runs them: from the results of its calls to the definitions.
+use Rattle.std.specs.Prelude.{Option}
 use Prim.Native.Nat.{ℕ, ◌+◌, ◌*◌, ◌/◌, ◌%◌, ◌<◌}
 use mathlib.Core.Path.{◌≡◌, refl, sym, ◌∙◌}
 use mathlib.Core.List.{List}
@@ -18,7 +19,6 @@ use Rattle.groups.proofs.BlocksInBytes.{block_in-lt}
 use Rattle.keys.specs.Fields.{text_pair_of}
 use Rattle.keys.specs.Wanted.{wanted_address}
 use Rattle.keys.proofs.WantedLaws.{wanted_address_lem, addresses_most}
-use Rattle.marker.specs.declared.seen.Held.{Held}
 use Rattle.marker.specs.Submission.{kind_at}
 use Rattle.marker.specs.Tests.{block_wrong, unlike, text_wrong}
 use Rattle.marker.specs.Rules.{BlockRight}
@@ -74,7 +74,7 @@ module _ (k : List ℕ) (a : ℕ) (b : Bool) (asked : b ≡ wanted_address k (4 
   text_address_lt t =
       omega (arith, wanted_address_lem k (4 + a) (sym asked ∙ not-false b t), addresses_most k)
 
-  module _ (held : Held) (flag : Bool) (x y : ℕ) where
+  module _ (held : Option Bool) (flag : Bool) (x y : ℕ) where
     pub text_unwanted : not b ≡ true → true ≡ text_wrong k held flag a x y
     unfolding text_wrong
     text_unwanted t = rw (← asked, t)

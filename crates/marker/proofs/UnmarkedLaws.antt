@@ -1,5 +1,6 @@
 -- TA, M/S, DI and AF are not marked: two submissions that are alike but for these get the same answer. Each test says
 -- the same of both, so each search finds the same place.
+use Rattle.std.specs.Prelude.{Option, Some, None}
 use Prim.Native.Nat.{ℕ, zero, suc, ◌*◌, ◌/◌, ◌%◌, ◌^◌, ◌<◌, ◌≤◌}
 use mathlib.Core.Path.{◌≡◌, refl, sym, ap, ◌∙◌}
 use mathlib.Core.List.{List}
@@ -16,10 +17,6 @@ use Rattle.groups.proofs.Contents.{content_0A, content_0B}
 use Rattle.keys.specs.Sheet.{key_at}
 use Rattle.keys.specs.Fields.{pi_of, pty_of, tp_of}
 use Rattle.keys.specs.Wanted.{addresses_of}
-use Rattle.marker.specs.declared.checks.Found.{Found}
-use Rattle.marker.specs.declared.checks.Found.TheVariants.{At, Nowhere}
-use Rattle.marker.specs.declared.seen.Held.{Held}
-use Rattle.marker.specs.declared.seen.Held.TheVariants.{NoFlag, Flag}
 use Rattle.marker.specs.declared.Verdict.{Verdict}
 use Rattle.marker.specs.declared.Verdict.TheVariants.{Passed, Missing}
 use Rattle.marker.specs.First.{first, on_found}
@@ -37,7 +34,7 @@ pub record Blind (f : Content → Bool) : Type 0 where
   pub of_0A : (v w : Switches) (a x y z : ℕ) → f (Name0A v a x z) ≡ f (Name0A w a y z)
   pub of_0B : (v w : Switches) (a z : ℕ) → f (Name0B v a z) ≡ f (Name0B w a z)
 
-content_blind : (k : List ℕ) (held : Held) → Blind (content_wrong k held)
+content_blind : (k : List ℕ) (held : Option Bool) → Blind (content_wrong k held)
 unfolding content_wrong
 content_blind k held = record { of_0A = λ v w a x y z. refl; of_0B = λ v w a z. refl }
 
@@ -108,13 +105,13 @@ module _ (s t : List ℕ) (alike : Alike s t) where
       rw (← first_cong (is_2a s) (is_2a t) 0 g (λ q _ m. is_2A_alike s t q (alike.group q (omega arith))))
       (told (first (is_2a s) 0 g) refl)
     where
-      told : (f : Found) → first (is_2a s) 0 g ≡ f → on_found (first (is_2a s) 0 g)
-          (λ h. Flag (text_flag (word_at s h 1))) NoFlag
-          ≡ on_found (first (is_2a s) 0 g) (λ h. Flag (text_flag (word_at t h 1))) NoFlag
-      told (At h) e =
+      told : (f : Option ℕ) → first (is_2a s) 0 g ≡ f → on_found (first (is_2a s) 0 g)
+          (λ h. Some (text_flag (word_at s h 1))) None
+          ≡ on_found (first (is_2a s) 0 g) (λ h. Some (text_flag (word_at t h 1))) None
+      told (Some h) e =
           let spot = at_first (is_2a s) 0 g h e in
-          rw e (ap Flag (flag-alike s t h (alike.group h (omega (arith, spot.below))) spot.here))
-      told Nowhere e = rw e
+          rw e (ap Some (flag-alike s t h (alike.group h (omega (arith, spot.below))) spot.here))
+      told None e = rw e
 
   group-alike : (k : List ℕ) (g : ℕ) → g < groups_in s → group_wrong k s g ≡ group_wrong k t g
   unfolding group_wrong
@@ -159,12 +156,12 @@ module _ (s t : List ℕ) (alike : Alike s t) where
       last : Verdict
       last = on_found (first_missing k s) Missing Passed
 
-      told : (f : Found) → first_bad_group k s ≡ f
+      told : (f : Option ℕ) → first_bad_group k s ≡ f
           → on_found (first_bad_group k s) (group_mark k s) last ≡ on_found (first_bad_group k s) (group_mark k t) last
-      told (At g) e =
+      told (Some g) e =
           let spot = at_first (group_wrong k s) 0 (groups_in s) g e in
           rw (e, header-alike s t g (alike.group g (omega (arith, spot.below))) k)
-      told Nowhere e = rw e
+      told None e = rw e
 
   pub unmarked : (sheet : List ℕ) (n : ℕ) → mark_of sheet n s ≡ mark_of sheet n t
   unfolding mark_of submission_mark length_wrong first_bad_block

@@ -1,9 +1,8 @@
 -- The table of the marking: which answer is given when, top to bottom. Its columns "No." and "Place" stand behind it.
-use Rattle.std.specs.Prelude.{ℕ, List, not, cond}
+use Rattle.std.specs.Prelude.{ℕ, List, not, cond, Option}
 use Rattle.keys.specs.Sheet.{no_key, key_at}
 use Rattle.keys.specs.Good.{key_good}
 use Rattle.keys.specs.Wanted.{addresses_of}
-use Rattle.marker.specs.declared.checks.Found.{Found}
 use Rattle.marker.specs.declared.Verdict.{Verdict}
 use Rattle.marker.specs.declared.Verdict.TheVariants.{Passed, NoKey, BadKey, BadLength, BadBlock, BadHeader}
 use Rattle.marker.specs.declared.Verdict.TheVariants.{BadContent, Missing}
@@ -14,15 +13,15 @@ use Rattle.marker.specs.Tests.{length_wrong, block_wrong, header_wrong_at, group
 -- ---- the places
 
 -- of 4: first such block
-unfoldable pub first_bad_block : List ℕ → Found
+unfoldable pub first_bad_block : List ℕ → Option ℕ
 first_bad_block s = first (block_wrong s) 0 (blocks_in s)
 
 -- of 5 and 6: group by group
-unfoldable pub first_bad_group : List ℕ → List ℕ → Found
+unfoldable pub first_bad_group : List ℕ → List ℕ → Option ℕ
 first_bad_group k s = first (group_wrong k s) 0 (groups_in s)
 
 -- of 7: the lowest address that never came
-unfoldable pub first_missing : List ℕ → List ℕ → Found
+unfoldable pub first_missing : List ℕ → List ℕ → Option ℕ
 first_missing k s = first (λ a. not (came s (groups_in s) a)) 0 (addresses_of k)
 
 -- ---- the answers

@@ -1,5 +1,6 @@
 -- The tests of the answers 3 to 7, each where the table's column "When" is true.
 use Rattle.std.specs.Prelude.{ℕ, zero, suc, ◌+◌, ◌*◌, ◌%◌, List, Bool, true, false, not, ◌&&◌, ◌||◌, length, eqb, ltb}
+use Rattle.std.specs.Prelude.{Option, Some, None}
 use Rattle.std.specs.Bool.{beq}
 use Rattle.blocks.specs.Block.{valid}
 use Rattle.groups.specs.Header.{type_of, version_of, tp_of as tp_in, pty_of as pty_in}
@@ -9,8 +10,6 @@ use Rattle.groups.specs.declared.fields.Content.{Content}
 use Rattle.groups.specs.declared.fields.Content.TheVariants.{Name0A, Name0B, Text2A, Text2B, Clock4A, Other}
 use Rattle.keys.specs.Fields.{pi_of, pty_of, tp_of, name_pair_of, text_pair_of}
 use Rattle.keys.specs.Wanted.{name_addresses, wanted_address}
-use Rattle.marker.specs.declared.seen.Held.{Held}
-use Rattle.marker.specs.declared.seen.Held.TheVariants.{NoFlag, Flag}
 use Rattle.marker.specs.First.{first, on_found}
 use Rattle.marker.specs.Submission.{word_at, kind_at, content_at}
 
@@ -47,22 +46,22 @@ abbrev pub text_at : ℕ → ℕ
 text_at a = name_addresses + a
 
 -- a flag is unlike the first 2A's
-unfoldable pub unlike : Held → Bool → Bool
-unlike NoFlag flag = false
-unlike (Flag held) flag = not (beq flag held)
+unfoldable pub unlike : Option Bool → Bool → Bool
+unlike None flag = false
+unlike (Some held) flag = not (beq flag held)
 
 -- name pair not the key's
 unfoldable pub name_wrong : List ℕ → ℕ → ℕ → Bool
 name_wrong k a pair = not (eqb pair (name_pair_of k a))
 
 -- 2A when it is not wanted, or text not the key's, or flag unlike the first 2A's
-unfoldable pub text_wrong : List ℕ → Held → Bool → ℕ → ℕ → ℕ → Bool
+unfoldable pub text_wrong : List ℕ → Option Bool → Bool → ℕ → ℕ → ℕ → Bool
 text_wrong k held flag a one two =
     not (wanted_address k (text_at a))
     || (not (eqb one (text_pair_of k (2 * a))) || (not (eqb two (text_pair_of k (2 * a + 1))) || unlike held flag))
 
 -- name pair or 2A text not the key's; 2A flag unlike the first 2A's; 2B at all; 2A when no text is wanted
-unfoldable pub content_wrong : List ℕ → Held → Content → Bool
+unfoldable pub content_wrong : List ℕ → Option Bool → Content → Bool
 content_wrong k held (Name0A switches a af pair) = name_wrong k a pair
 content_wrong k held (Name0B switches a pair) = name_wrong k a pair
 content_wrong k held (Text2A flag a one two) = text_wrong k held flag a one two
@@ -77,8 +76,8 @@ unfoldable pub is_2a : List ℕ → ℕ → Bool
 is_2a s g = eqb (type_of (word_at s g 1)) 2 && eqb (version_of (word_at s g 1)) 0
 
 -- the flag of the first 2A among the first g groups
-unfoldable pub first_flag : List ℕ → ℕ → Held
-first_flag s g = on_found (first (is_2a s) 0 g) (λ h. Flag (text_flag (word_at s h 1))) NoFlag
+unfoldable pub first_flag : List ℕ → ℕ → Option Bool
+first_flag s g = on_found (first (is_2a s) 0 g) (λ h. Some (text_flag (word_at s h 1))) None
 
 -- 5: the header of group g is wrong
 abbrev pub header_wrong_at : List ℕ → List ℕ → ℕ → Bool

@@ -5,26 +5,12 @@ ghost use Rattle.marker.specs.Mark.{first_bad_block};
 
 use crate::{GROUP, PLACES, reader};
 
-// The first place of which a test says yes.
-#[derive(Clone, Copy)]
-pub enum Found {
-    At(usize),
-    Nowhere,
-}
-
 // The first block that is not valid as its kind.
-pub(crate) fn first_bad_block(submission: &[u8]) -> Found
+pub(crate) fn first_bad_block(submission: &[u8]) -> Option<usize>
     ensures { result ≡ first_bad_block submission.now }
 {
     let blocks = PLACES * (submission.len() / GROUP);
-    let mut block = 0;
-    while block < blocks {
-        if block_wrong(submission, block) {
-            return Found::At(block);
-        }
-        block += 1;
-    }
-    Found::Nowhere
+    (0..blocks).find(|block| block_wrong(submission, *block))
 }
 
 // Answer 4: a block that is not valid as its kind, the third by word 2 of its group.

@@ -6,51 +6,37 @@ ghost use Rattle.marker.specs.Tests.{header_wrong, unlike, name_wrong, text_wron
 ghost use Rattle.marker.specs.Steps.{heading_of, step_of};
 ghost use Rattle.marker.specs.Mark.{content_mark};
 
-use crate::seen::{Held, TEXT};
+use crate::seen::TEXT;
 use crate::{GROUP, PLACES, Verdict, reader, seen};
 use groups::fields::Content;
 use keys::Key;
-
-// What reading a header yields: what the group carries, or that PI, TP, PTY or the third word is wrong.
-#[derive(Clone, Copy)]
-enum Heading {
-    Carries(Content),
-    Wrong,
-}
-
-// A group that is right, with what it carries, or the answer that it gets.
-#[derive(Clone, Copy)]
-enum Step {
-    Right(Content),
-    Stop(Verdict),
-}
 
 // The answers 5 and 6 group by group, then 7. Words are read whatever their checks.
 pub(crate) fn mark_content(key: Key, submission: &[u8]) -> Verdict
     ensures { result ≡ content_mark key.bytes submission.now }
 {
-    let groups = submission.len() / GROUP;
-    let mut held = Held::NoFlag;
-    let mut mask: u32 = 0;
-    let mut group = 0;
-    while group < groups {
+    let mut held = None;
+    let mut mask = 0;
+    for group in 0..submission.len() / GROUP {
         match take_group(key, submission, group, held) {
-            Step::Right(content) => {
+            Ok(content) => {
                 held = seen::held_after(held, content);
                 mask = seen::seen_after(mask, content);
             }
-            Step::Stop(verdict) => {
-                return verdict;
-            }
+            Err(verdict) => return verdict,
         }
-        group += 1;
     }
     seen::missing(key, mask)
 }
 
-// A group by itself: a header that is wrong is answered 5 and the group not looked at further; else 6 if its content
-// is wrong.
-fn take_group(key: Key, submission: &[u8], group: usize, held: Held) -> Step
+// What a group that is right carries, or the answer that it gets: a header that is wrong is answered 5 and the group
+// not looked at further; else 6 if its content is wrong.
+fn take_group(
+    key: Key,
+    submission: &[u8],
+    group: usize,
+    held: Option<bool>,
+) -> Result<Content, Verdict>
     requires { group < groups_in submission.now }
     ensures { result ≡ step_of key.bytes submission.now group held }
 {
@@ -59,23 +45,23 @@ fn take_group(key: Key, submission: &[u8], group: usize, held: Held) -> Step
     let word2 = reader::word_in(submission, block + 1);
     let word3 = reader::word_in(submission, block + 2);
     let word4 = reader::word_in(submission, block + 3);
-    let Heading::Carries(content) = read_header(key, word1, word2, word3, word4) else {
-        return Step::Stop(Verdict::BadHeader(group));
+    let Some(content) = read_header(key, word1, word2, word3, word4) else {
+        return Err(Verdict::BadHeader(group));
     };
     if content_wrong(key, held, content) {
-        return Step::Stop(Verdict::BadContent(group));
+        return Err(Verdict::BadContent(group));
     }
-    Step::Right(content)
+    Ok(content)
 }
 
-// Answer 5 or what the group carries.
-fn read_header(key: Key, word1: u16, word2: u16, word3: u16, word4: u16) -> Heading
+// What the group carries; nothing where PI, TP, PTY or the third word is wrong.
+fn read_header(key: Key, word1: u16, word2: u16, word3: u16, word4: u16) -> Option<Content>
     ensures { result ≡ heading_of key.bytes word1 word2 word3 word4 }
 {
     if header_wrong(key, word1, word2, word3) {
-        return Heading::Wrong;
+        return None;
     }
-    Heading::Carries(groups::fields::content_from(word2, word3, word4))
+    Some(groups::fields::content_from(word2, word3, word4))
 }
 
 // PI, TP or PTY not the key's, or version 1 and third word not the key's PI.
@@ -84,39 +70,28 @@ fn header_wrong(key: Key, word1: u16, word2: u16, word3: u16) -> bool
 {
     let header = groups::fields::header_from(word1, word2);
     let pi = keys::pi(key);
-    let third = (header.version == 1) & (word3 != pi);
-    (header.pi != pi) | ((header.tp != keys::tp(key)) | ((header.pty != keys::pty(key)) | third))
+    header.pi != pi
+        || header.tp != keys::tp(key)
+        || header.pty != keys::pty(key)
+        || header.version == 1 && word3 != pi
 }
 
 // Answer 6.
-fn content_wrong(key: Key, held: Held, content: Content) -> bool
+fn content_wrong(key: Key, held: Option<bool>, content: Content) -> bool
     ensures { result ≡ content_wrong key.bytes held content }
 {
     match content {
-        Content::Name0A {
-            switches: _,
-            address,
-            af: _,
-            pair: name,
-        } => name_wrong(key, address, name),
-        Content::Name0B {
-            switches: _,
-            address,
-            pair,
-        } => name_wrong(key, address, pair),
+        Content::Name0A { address, pair, .. } | Content::Name0B { address, pair, .. } => {
+            name_wrong(key, address, pair)
+        }
         Content::Text2A {
             flag,
             address,
             first,
             second,
         } => text_wrong(key, held, flag, address, first, second),
-        Content::Text2B {
-            flag: _,
-            address: _,
-            pair: _,
-        } => true,
-        Content::Clock4A => false,
-        Content::Other => false,
+        Content::Text2B { .. } => true,
+        Content::Clock4A | Content::Other => false,
     }
 }
 
@@ -128,30 +103,38 @@ fn name_wrong(key: Key, address: u8, pair: u16) -> bool
 }
 
 // A 2A that is not wanted, whose text is not the key's, or whose flag is unlike the first 2A's.
-fn text_wrong(key: Key, held: Held, flag: bool, address: u8, first: u16, second: u16) -> bool
+fn text_wrong(
+    key: Key,
+    held: Option<bool>,
+    flag: bool,
+    address: u8,
+    first: u16,
+    second: u16,
+) -> bool
     ensures { result ≡ text_wrong key.bytes held flag address first second }
 {
-    if !is_wanted(key, TEXT + (address as usize)) {
+    if !is_wanted(key, TEXT + usize::from(address)) {
         return true;
     }
     let pair = 2 * address;
-    (first != keys::text_pair(key, pair))
-        | ((second != keys::text_pair(key, pair + 1)) | is_unlike(held, flag))
+    first != keys::text_pair(key, pair)
+        || second != keys::text_pair(key, pair + 1)
+        || is_unlike(held, flag)
 }
 
 // An address that the key wants.
 fn is_wanted(key: Key, address: usize) -> bool
     ensures { result ≡ wanted_address key.bytes address }
 {
-    address < (keys::addresses(key) as usize)
+    address < usize::from(keys::addresses(key))
 }
 
 // A flag unlike the first 2A's.
-fn is_unlike(held: Held, flag: bool) -> bool
+fn is_unlike(held: Option<bool>, flag: bool) -> bool
     ensures { result ≡ unlike held flag }
 {
     match held {
-        Held::NoFlag => false,
-        Held::Flag(first) => flag != first,
+        None => false,
+        Some(first) => flag != first,
     }
 }

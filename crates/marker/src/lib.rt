@@ -12,8 +12,7 @@ mod content;
 mod reader;
 mod seen;
 
-use checks::Found;
-use keys::{Key, KeyAnswer};
+use keys::{Key, KeyError};
 
 // Bytes of a group.
 const GROUP: usize = 13;
@@ -24,8 +23,9 @@ const PLACES: usize = 4;
 // Bytes of the longest submission.
 const LIMIT: usize = 13312;
 
-// The answers 0 to 7, those with a place hold it.
-#[derive(Clone, Copy)]
+// The answers 0 to 7, those with a place hold it. An enum with names of its own and no Result: the eight are the lines
+// of the table, and which of them holds is all that is asked.
+#[derive(Clone, Copy, PartialEq, Eq)]
 pub enum Verdict {
     Passed,
     NoKey,
@@ -43,12 +43,10 @@ pub fn mark(sheet: &[u8], exercise: usize, submission: &[u8]) -> Verdict
         × (number_of result ≡ mark_number sheet.now exercise submission.now)
         × (place_of result ≡ mark_place sheet.now exercise submission.now) }
 {
-    let asked = keys::key_of(sheet, exercise);
-    let answer = asked.answer;
-    match answer {
-        KeyAnswer::NoKey => Verdict::NoKey,
-        KeyAnswer::BadKey => Verdict::BadKey,
-        KeyAnswer::Good => mark_submission(asked.key, submission),
+    match keys::key_of(sheet, exercise) {
+        Err(KeyError::NoKey) => Verdict::NoKey,
+        Err(KeyError::BadKey) => Verdict::BadKey,
+        Ok(key) => mark_submission(key, submission),
     }
 }
 
@@ -73,14 +71,10 @@ pub fn place(verdict: Verdict) -> usize
     ensures { result ≡ place_of verdict }
 {
     match verdict {
-        Verdict::Passed => 0,
-        Verdict::NoKey => 0,
-        Verdict::BadKey => 0,
-        Verdict::BadLength => 0,
+        Verdict::Passed | Verdict::NoKey | Verdict::BadKey | Verdict::BadLength => 0,
         Verdict::BadBlock(block) => block,
-        Verdict::BadHeader(group) => group,
-        Verdict::BadContent(group) => group,
-        Verdict::Missing(address) => address as usize,
+        Verdict::BadHeader(group) | Verdict::BadContent(group) => group,
+        Verdict::Missing(address) => usize::from(address),
     }
 }
 
@@ -92,8 +86,8 @@ fn mark_submission(key: Key, submission: &[u8]) -> Verdict
         return Verdict::BadLength;
     }
     match checks::first_bad_block(submission) {
-        Found::At(block) => Verdict::BadBlock(block),
-        Found::Nowhere => content::mark_content(key, submission),
+        Some(block) => Verdict::BadBlock(block),
+        None => content::mark_content(key, submission),
     }
 }
 
@@ -102,5 +96,5 @@ fn length_wrong(submission: &[u8]) -> bool
     ensures { result ≡ length_wrong submission.now }
 {
     let size = submission.len();
-    (size == 0) | ((size % GROUP != 0) | (size > LIMIT))
+    size == 0 || size % GROUP != 0 || size > LIMIT
 }

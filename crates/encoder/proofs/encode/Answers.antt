@@ -1,20 +1,16 @@
 -- `encoder::encode` meets its contract: by what `key_of` answers.
-use Rattle.encoder.proofs.PromiseLaws.{promise_none, promise_bad, promise_good}
+use Rattle.std.proofs.Common.{sym, ◌∙◌}
+use Rattle.std.proofs.lemmas.Result.{err_from_is_err_and}
+use Rattle.encoder.proofs.PromiseLaws.{promise_refused, promise_good}
 use Rattle.encoder.proofs.encode.Goals as goal
 
-pub returns-in-NoKey : goal.returns-in-NoKey
-returns-in-NoKey c =
-    promise_none c.args.sheet.now c.args.exercise c.args.out.now
-    c.key_of-asked.result c.key_of-asked.ensures.0 c.in-NoKey.is
+pub returns-in_err-key : goal.returns-in_err-key
+returns-in_err-key c =
+    let p = err_from_is_err_and c.from_residual.result c.from_residual.ensures.1 in
+    rw (p.1, p.2)
+    (promise_refused c.args.sheet.now c.args.exercise c.args.out.now _ (sym c.in_err-key.was ∙ c.key_of.ensures.0))
 
-pub returns-in-BadKey : goal.returns-in-BadKey
-returns-in-BadKey c =
-    promise_bad c.args.sheet.now c.args.exercise c.args.out.now
-    c.key_of-asked.result c.key_of-asked.ensures.0 c.in-BadKey.is
-
-pub returns-in-Good : goal.returns-in-Good
-returns-in-Good c =
-    let asked = c.key_of-asked in
-    promise_good c.args.sheet.now c.args.exercise c.args.out.now asked.result
-    asked.ensures.0 c.in-Good.is _ _
-    c.encode_key.ensures.0 c.encode_key.ensures.1
+pub returns : goal.returns
+returns c =
+    promise_good c.args.sheet.now c.args.exercise c.args.out.now _ (sym c.in_ok-key.was ∙ c.key_of.ensures.0)
+    _ _ c.encode_key.ensures.0 c.encode_key.ensures.1

@@ -1,16 +1,18 @@
--- `keys::all_good` meets its contract. The loop's invariant: the flag is `all_good` of the bytes passed.
--- Assumes nothing.
-use borrow.Author.Rules.{rules}
-use Rattle.keys.specs.Good.{all_good}
-use Rattle.keys.proofs.GoodLaws.{all_good_more, all_good_end}
+-- `keys::all_good` meets its contract: what `all` says of the slice's bytes is said of the bytes from the place on.
+use Rattle.std.proofs.Common.{arith, rules, ◌≡◌, ◌+◌, ◌-◌, true, false, take, drop}
+use Rattle.std.proofs.lemmas.Iterator.{cases_from_all, YieldsList-from_slice}
+use borrow.Author.Tests.{tests}
+use Rattle.keys.specs.Good.{byte_good}
+use Rattle.keys.proofs.GoodLaws.{all_good_slice}
 use Rattle.keys.proofs.all_good.Goals as goal
 
-pub loop-i-init : goal.loop-i-init
-unfolding all_good
-loop-i-init c = search rules
-
-pub loop-i-preserved : goal.loop-i-preserved
-loop-i-preserved c = (search rules, search (all_good_more, rules))
-
 pub returns : goal.returns
-returns c = search (all_good_end, rules)
+returns c =
+    let k = c.args.bytes.now in
+    let at = c.args.at in
+    let shown = c.args.shown in
+    let size : at + c.args.count - at ≡ c.args.count = omega arith in
+    all_good_slice shown k at c.args.count c.all.result (omega arith)
+    (cases_from_all _ _ _ (λ x. byte_good shown x ≡ true) (λ x. byte_good shown x ≡ false) c.all.ensures.ran
+    (YieldsList-from_slice (take c.args.count (drop at k)) (rw size at c.iter.ensures.rest))
+    (λ x q k. search (rules, tests)) (λ x q k. search (rules, tests)))

@@ -1,13 +1,9 @@
 -- `keys::key_of` meets its contract: at each `return` the two tests say which case of `key_of` holds, and the number
--- beside it follows from the answer.
--- Assumes nothing.
-use mathlib.Core.Path.{◌≡◌, sym, ap, ◌∙◌}
-use mathlib.Core.Bool.{true, false}
-use Rattle.keys.specs.declared.Asked.{Asked}
-use Rattle.keys.specs.declared.KeyAnswer.TheVariants.{Good, NoKey, BadKey}
+-- follows from the answer.
+use Rattle.std.proofs.Common.{◌≡◌, sym, ap, ◌∙◌, true, false}
 use Rattle.keys.specs.Sheet.{no_key, key_at}
 use Rattle.keys.specs.Good.{key_good}
-use Rattle.keys.specs.Asked.{key_number_of, asked, key_of}
+use Rattle.keys.specs.Asked.{key_number_of, given, key_of}
 use Rattle.keys.proofs.SheetLaws.{has_exercise, record_whole}
 use Rattle.keys.proofs.AnswerLaws.{asked_none, asked_bad, asked_good, key_number}
 use Rattle.keys.proofs.key_of.Goals as goal
@@ -16,10 +12,8 @@ pub returns-then-no_key : goal.returns-then-no_key
 returns-then-no_key c =
     let sheet = c.args.sheet.now in
     let n = c.args.exercise in
-    let e : asked NoKey c.no_bytes-none.result.bytes ≡ key_of sheet n =
-    ap (asked NoKey) c.no_bytes-none.ensures
-    ∙ sym (asked_none sheet n (sym c.no_key.ensures ∙ c.if-no_key.true)) in
-    (e, ap (λ (r : Asked). key_number_of r.answer) e ∙ key_number sheet n)
+    let e = sym (asked_none sheet n (sym c.no_key.ensures ∙ c.if-no_key.true)) in
+    (e, ap key_number_of e ∙ key_number sheet n)
 
 -- past the first test the sheet has the exercise
 pub key_at-key-requires : goal.key_at-key-requires
@@ -35,9 +29,8 @@ returns-then-not-key_good c =
     let there : no_key sheet n ≡ false = sym c.no_key.ensures ∙ c.if-no_key.false in
     let bad : key_good (key_at sheet n) ≡ false =
     sym (ap key_good c.key_at-key.ensures) ∙ sym c.key_good.ensures ∙ c.if-not-key_good.true in
-    let e : asked BadKey c.no_bytes-none.result.bytes ≡ key_of sheet n =
-    ap (asked BadKey) c.no_bytes-none.ensures ∙ sym (asked_bad sheet n there bad) in
-    (e, ap (λ (r : Asked). key_number_of r.answer) e ∙ key_number sheet n)
+    let e = sym (asked_bad sheet n there bad) in
+    (e, ap key_number_of e ∙ key_number sheet n)
 
 pub returns : goal.returns
 returns c =
@@ -46,6 +39,5 @@ returns c =
     let there : no_key sheet n ≡ false = sym c.no_key.ensures ∙ c.if-no_key.false in
     let good : key_good (key_at sheet n) ≡ true =
     sym (ap key_good c.key_at-key.ensures) ∙ sym c.key_good.ensures ∙ c.if-not-key_good.false in
-    let e : asked Good c.key_at-key.result.bytes ≡ key_of sheet n =
-    ap (asked Good) c.key_at-key.ensures ∙ sym (asked_good sheet n there good) in
-    (e, ap (λ (r : Asked). key_number_of r.answer) e ∙ key_number sheet n)
+    let e = ap given c.key_at-key.ensures ∙ sym (asked_good sheet n there good) in
+    (e, ap key_number_of e ∙ key_number sheet n)

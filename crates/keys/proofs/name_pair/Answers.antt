@@ -1,10 +1,5 @@
 -- `keys::name_pair` meets its contract: past the last pair 0, else by the contract of `pair_at`.
--- Assumes nothing.
-use Prim.Native.Nat.{◌+◌, ◌*◌}
-use mathlib.Core.Path.{◌≡◌, sym, ◌∙◌}
-use native.Mathlib.Nat.{add_assoc}
-use native.Mathlib.Omega.{arith}
-use lib.ListN.{get_or}
+use Rattle.std.proofs.Common.{arith, ◌+◌, ◌*◌, ◌≡◌, sym, ◌∙◌, get_or, add_assoc}
 use Rattle.keys.specs.Fields.{name_place, pair_of}
 use Rattle.keys.proofs.FieldLaws.{name_pair_at, name_pair_past}
 use Rattle.keys.proofs.name_pair.Goals as goal
@@ -17,5 +12,5 @@ returns c =
     let a = c.args.a in
     let k = c.args.key.bytes in
     let e : c.pair_at.result ≡ pair_of (get_or k (name_place + 2 * a) 0) (get_or k (name_place + 2 * a + 1) 0) =
-    c.pair_at.ensures in
+    rw c.from.ensures at c.pair_at.ensures in
     e ∙ rw (add_assoc name_place (2 * a) 1) (sym (name_pair_at k a (omega arith)))

@@ -1,6 +1,8 @@
--- `keys::pair_at` meets its contract, by that of `pair`.
--- Assumes nothing.
+-- `keys::pair_at` meets its contract: what `from_be_bytes` says of two bytes is the word.
+use Rattle.std.proofs.Common.{arith}
+use Rattle.keys.specs.Fields.{pair_of}
 use Rattle.keys.proofs.pair_at.Goals as goal
 
 pub returns : goal.returns
-returns c = c.pair.ensures
+unfolding pair_of
+returns c = omega (arith, c.from_be_bytes.ensures)

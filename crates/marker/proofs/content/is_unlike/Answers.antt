@@ -2,10 +2,10 @@
 use Rattle.marker.specs.Tests.{unlike}
 use Rattle.marker.proofs.content.is_unlike.Goals as goal
 
-pub returns-in-NoFlag : goal.returns-in-NoFlag
+pub returns-in-None : goal.returns-in-None
 unfolding unlike
-returns-in-NoFlag c = rw c.in-NoFlag.is
+returns-in-None c = rw c.in-None.is
 
-pub returns-in-Flag : goal.returns-in-Flag
+pub returns-in-Some : goal.returns-in-Some
 unfolding unlike
-returns-in-Flag c = rw c.in-Flag.is
+returns-in-Some c = rw c.in-Some.is

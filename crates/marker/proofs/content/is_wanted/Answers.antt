@@ -4,4 +4,4 @@ use Rattle.marker.proofs.content.is_wanted.Goals as goal
 
 pub returns : goal.returns
 unfolding wanted_address
-returns c = rw c.addresses.ensures
+returns c = rw (c.from.ensures, c.addresses.ensures)
