@@ -10,7 +10,7 @@ use crate::lines::Line;
 use crate::pieces::Piece;
 use crate::{lines, pieces, words};
 use frequencies::AfList;
-use station::{HeldFlag, HeldPi, Record, read};
+use station::{Record, read};
 
 // The marks of a pair that was seen, and of one that was not.
 const SEEN: u8 = 43;
@@ -20,22 +20,22 @@ const UNSEEN: u8 = 45;
 const SPACE: u8 = 32;
 
 // The PI, or that there is none.
-fn pi_piece(held: HeldPi) -> Piece
+fn pi_piece(held: Option<u16>) -> Piece
     ensures { result ≡ pi_piece held }
 {
     match held {
-        HeldPi::Pi(pi) => Piece::Hex(pi),
-        HeldPi::NoPi => Piece::Word(words::NONE),
+        Some(pi) => Piece::Hex(pi),
+        None => Piece::Word(words::NONE),
     }
 }
 
 // The text flag, or that there is none.
-fn flag_piece(held: HeldFlag) -> Piece
+fn flag_piece(held: Option<bool>) -> Piece
     ensures { result ≡ flag_piece held }
 {
     match held {
-        HeldFlag::Flag(flag) => lines::bit(flag),
-        HeldFlag::NoFlag => Piece::Word(words::NONE),
+        Some(flag) => lines::bit(flag),
+        None => Piece::Word(words::NONE),
     }
 }
 

@@ -11,8 +11,8 @@ ghost use Rattle.telling.specs.Lines.{clock_of, carried_by, closing_by, group_te
 
 use crate::pieces::Piece;
 use crate::{pieces, words};
-use clock::{Held, Local};
-use frequencies::FrequencyAnswer;
+use clock::{Clock, DateTime, OutOfRange};
+use frequencies::NoFrequency;
 use groups::Group;
 use groups::fields::Content;
 
@@ -134,21 +134,21 @@ fn second(word: u16) -> Piece
 }
 
 // The label of an AF code, and its frequency or itself.
-fn af_label(answer: FrequencyAnswer) -> Piece
+fn af_label(answer: Result<u32, NoFrequency>) -> Piece
     ensures { result ≡ af_label answer }
 {
     match answer {
-        FrequencyAnswer::Khz(_) => SPACE,
-        FrequencyAnswer::NoFrequency => Piece::Word(words::CODE),
+        Ok(_) => SPACE,
+        Err(NoFrequency) => Piece::Word(words::CODE),
     }
 }
 
-fn af_piece(answer: FrequencyAnswer, code: u8) -> Piece
+fn af_piece(answer: Result<u32, NoFrequency>, code: u8) -> Piece
     ensures { result ≡ af_piece answer code }
 {
     match answer {
-        FrequencyAnswer::Khz(khz) => Piece::Number(khz as u64),
-        FrequencyAnswer::NoFrequency => Piece::Number(code as u64),
+        Ok(khz) => Piece::Number(u64::from(khz)),
+        Err(NoFrequency) => Piece::Number(u64::from(code)),
     }
 }
 
@@ -245,30 +245,29 @@ fn sign(negative: bool) -> Piece
 }
 
 // A clock behind its label, or that there is none.
-pub(crate) fn clock_line(label: u64, held: Held) -> Line
+pub(crate) fn clock_line(label: u64, held: Option<Clock>) -> Line
     ensures { line_text result ≡ line_text (clock_line label held) }
 {
     let mut line = [Piece::Silent; 16];
     line[0] = Piece::Word(label);
     line[1] = NONE;
     match held {
-        Held::At(clock) => {
-            let day = clock.day;
-            line[1] = Piece::Number(day.0 as u64);
+        Some(clock) => {
+            line[1] = Piece::Number(u64::from(clock.day.0));
             line[2] = SPACE;
             line[3] = Piece::Two(clock.hour);
             line[4] = COLON;
             line[5] = Piece::Two(clock.minute);
             line[6] = sign(clock.negative);
-            line[7] = Piece::Number(clock.half as u64);
+            line[7] = Piece::Number(u64::from(clock.half));
             line
         }
-        Held::Nothing => line,
+        None => line,
     }
 }
 
 // A local date and time behind its label, or that there is none; the line ends with it.
-pub(crate) fn local_line(label: u64, local: Local) -> Line
+pub(crate) fn local_line(label: u64, local: Result<DateTime, OutOfRange>) -> Line
     ensures { line_text result ≡ line_text (local_line label local) }
 {
     let mut line = [Piece::Silent; 16];
@@ -276,8 +275,8 @@ pub(crate) fn local_line(label: u64, local: Local) -> Line
     line[1] = NONE;
     line[15] = END;
     match local {
-        Local::Date(at) => {
-            line[1] = Piece::Number(at.year as u64);
+        Ok(at) => {
+            line[1] = Piece::Number(u64::from(at.year));
             line[2] = HYPHEN;
             line[3] = Piece::Two(at.month);
             line[4] = HYPHEN;
@@ -288,12 +287,12 @@ pub(crate) fn local_line(label: u64, local: Local) -> Line
             line[9] = Piece::Two(at.minute);
             line
         }
-        Local::OutOfRange => line,
+        Err(OutOfRange) => line,
     }
 }
 
 // What a group's content says; `held` is the clock that its words make, if they do.
-fn content_line(content: Content, held: Held) -> Line
+fn content_line(content: Content, held: Option<Clock>) -> Line
     ensures { line_text result ≡ line_text (content_line content held) }
 {
     match content {
@@ -330,39 +329,21 @@ fn content_line(content: Content, held: Held) -> Line
 }
 
 // How the line of a group's content ends.
-fn closing_line(content: Content, held: Held) -> Line
+fn closing_line(content: Content, held: Option<Clock>) -> Line
     ensures { line_text result ≡ line_text (closing_line content held) }
 {
     match content {
-        Content::Name0A {
-            switches: _,
-            address: _,
-            af: _,
-            pair: _,
-        } => one_word(words::END),
-        Content::Name0B {
-            switches: _,
-            address: _,
-            pair: _,
-        } => one_word(words::END),
-        Content::Text2A {
-            flag: _,
-            address: _,
-            first: _,
-            second: _,
-        } => one_word(words::END),
-        Content::Text2B {
-            flag: _,
-            address: _,
-            pair: _,
-        } => one_word(words::END),
         Content::Clock4A => local_line(words::LOCAL, clock::local_date(held)),
-        Content::Other => one_word(words::END),
+        Content::Name0A { .. }
+        | Content::Name0B { .. }
+        | Content::Text2A { .. }
+        | Content::Text2B { .. }
+        | Content::Other => one_word(words::END),
     }
 }
 
 // The clock that a group's words make, if they do.
-fn clock_of(group: Group) -> Held
+fn clock_of(group: Group) -> Option<Clock>
     ensures { result ≡ clock_of group }
 {
     clock::read(
