@@ -1,21 +1,19 @@
 -- AF: each answer as one number, and the words of a list in bytes.
-use Rattle.std.specs.Prelude.{ℕ, zero, suc, ◌+◌, ◌-◌, ◌*◌, ◌/◌, ◌^◌, List, cond, eqb, length, get_or}
-use Rattle.frequencies.specs.declared.FrequencyAnswer.{FrequencyAnswer}
-use Rattle.frequencies.specs.declared.FrequencyAnswer.TheVariants.{Khz, NoFrequency}
-use Rattle.frequencies.specs.declared.CodeAnswer.{CodeAnswer}
-use Rattle.frequencies.specs.declared.CodeAnswer.TheVariants.{Code, NoCode}
+use Rattle.std.specs.Prelude.{ℕ, zero, suc, ◌+◌, ◌-◌, ◌*◌, ◌/◌, ◌^◌, List, cond, eqb, length, get_or, Result, Ok, Err}
+use Rattle.frequencies.specs.declared.NoFrequency.{NoFrequency}
+use Rattle.frequencies.specs.declared.NoCode.{NoCode}
 use Rattle.frequencies.specs.declared.AfList.{AfList}
 use Rattle.frequencies.specs.AfList.{empty_of, taken_of, held_of, expected_of, at_of}
 
 -- the kHz; 11 where it is refused
-abbrev pub frequency_code : FrequencyAnswer → ℕ
-frequency_code (Khz khz) = khz
-frequency_code NoFrequency = 11
+abbrev pub frequency_code : Result ℕ NoFrequency → ℕ
+frequency_code (Ok khz) = khz
+frequency_code (Err e) = 11
 
 -- 256 more than the code; 11 where it is refused
-abbrev pub code_code : CodeAnswer → ℕ
-code_code (Code code) = 2 ^ 8 + code
-code_code NoCode = 11
+abbrev pub code_code : Result ℕ NoCode → ℕ
+code_code (Ok code) = 2 ^ 8 + code
+code_code (Err e) = 11
 
 -- a list by numbers: how many are expected, how many are held, then the frequencies
 abbrev pub list_code : AfList → ℕ → ℕ

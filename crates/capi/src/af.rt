@@ -3,7 +3,7 @@ ghost use Rattle.std.specs.Prelude.{◌≡◌, ◌+◌, ◌*◌};
 ghost use Rattle.frequencies.specs.Frequency.{frequency_of, code_of};
 ghost use Rattle.capi.specs.Frequencies.{frequency_code, code_code, list_code, list_in};
 
-use frequencies::{AfList, CodeAnswer, FrequencyAnswer};
+use frequencies::AfList;
 
 // The number of the refusal.
 const REFUSED: u32 = 11;
@@ -15,32 +15,14 @@ const ABOVE_CODE: u32 = 256;
 pub fn bench_frequency(code: u8) -> u32
     ensures { result ≡ frequency_code (frequency_of code) }
 {
-    frequency_code(frequencies::frequency(code))
-}
-
-fn frequency_code(answer: FrequencyAnswer) -> u32
-    ensures { result ≡ frequency_code answer }
-{
-    match answer {
-        FrequencyAnswer::Khz(khz) => khz,
-        FrequencyAnswer::NoFrequency => REFUSED,
-    }
+    frequencies::frequency(code).unwrap_or(REFUSED)
 }
 
 // The code of a frequency in kHz.
 pub fn bench_code(khz: u32) -> u32
     ensures { result ≡ code_code (code_of khz) }
 {
-    code_code(frequencies::code(khz))
-}
-
-fn code_code(answer: CodeAnswer) -> u32
-    ensures { result ≡ code_code answer }
-{
-    match answer {
-        CodeAnswer::Code(code) => ABOVE_CODE + (code as u32),
-        CodeAnswer::NoCode => REFUSED,
-    }
+    frequencies::code(khz).map_or(REFUSED, |code| ABOVE_CODE + u32::from(code))
 }
 
 // Of the list that the words in some bytes give: how many are expected, how many are held, and then the frequencies in
@@ -55,8 +37,8 @@ pub fn list_code(list: AfList, asked: usize) -> u32
     ensures { result ≡ list_code list asked }
 {
     match asked {
-        0 => frequencies::expected(list) as u32,
-        1 => frequencies::held(list) as u32,
+        0 => u32::from(frequencies::expected(list)),
+        1 => u32::from(frequencies::held(list)),
         _ => frequencies::at(list, asked - 2),
     }
 }
@@ -65,19 +47,16 @@ pub fn list_code(list: AfList, asked: usize) -> u32
 pub fn word_of(high: u8, low: u8) -> u16
     ensures { result ≡ high * 256 + low }
 {
-    (high as u16) * 256 + (low as u16)
+    u16::from_be_bytes([high, low])
 }
 
 // The list after the words in some bytes.
 fn list_of(bytes: &[u8]) -> AfList
     ensures { result ≡ list_in bytes.now }
 {
-    let words = bytes.len() / 2;
     let mut list = frequencies::empty();
-    let mut i: usize = 0;
-    while i < words {
-        list = frequencies::taken(list, word_of(bytes[2 * i], bytes[2 * i + 1]));
-        i += 1;
+    for pair in bytes.chunks_exact(2) {
+        list = frequencies::taken(list, word_of(pair[0], pair[1]));
     }
     list
 }

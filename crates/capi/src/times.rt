@@ -4,7 +4,7 @@ ghost use Rattle.clock.specs.Words.{read_of, write_of};
 ghost use Rattle.clock.specs.Local.{local_date_of};
 ghost use Rattle.capi.specs.Times.{clock_of, held_of, held_code, written_code, local_code};
 
-use clock::{Clock, Held, Local, UtcDay, Written};
+use clock::{Clock, DateTime, OutOfRange, UtcDay};
 
 // The number of the refusal.
 const REFUSED: u64 = 10;
@@ -41,7 +41,8 @@ pub fn bench_write_clock(
 pub fn bench_local_date(held: bool, day: u32, hour: u8, minute: u8, negative: bool, half: u8) -> u64
     ensures { result ≡ local_code (local_date_of (held_of held (clock_of day hour minute negative half))) }
 {
-    local_code(clock::local_date(held_of(held, clock_of(day, hour, minute, negative, half))))
+    let clock = clock_of(day, hour, minute, negative, half);
+    local_code(clock::local_date(held.then_some(clock)))
 }
 
 fn clock_of(day: u32, hour: u8, minute: u8, negative: bool, half: u8) -> Clock
@@ -56,65 +57,48 @@ fn clock_of(day: u32, hour: u8, minute: u8, negative: bool, half: u8) -> Clock
     }
 }
 
-fn held_of(held: bool, clock: Clock) -> Held
-    ensures { result ≡ held_of held clock }
-{
-    if held {
-        return Held::At(clock);
-    }
-    Held::Nothing
-}
-
-pub fn held_code(held: Held) -> u64
+pub fn held_code(held: Option<Clock>) -> u64
     ensures { result ≡ held_code held }
 {
     match held {
-        Held::At(clock) => {
-            let day = clock.day;
+        Some(clock) => {
             CLOCK
-                + (day.0 as u64) * 0x2000000
-                + (clock.hour as u64) * 0x20000
-                + (clock.minute as u64) * 0x200
-                + bit(clock.negative) * 0x100
-                + (clock.half as u64)
+                + u64::from(clock.day.0) * 0x2000000
+                + u64::from(clock.hour) * 0x20000
+                + u64::from(clock.minute) * 0x200
+                + u64::from(clock.negative) * 0x100
+                + u64::from(clock.half)
         }
-        Held::Nothing => 0,
+        None => 0,
     }
 }
 
-// A yes or no as a bit.
-fn bit(on: bool) -> u64
-    ensures { (result ≡ cond on 1 0) × (result ≤ 1) }
-{
-    if on { 1 } else { 0 }
-}
-
-fn written_code(written: Written) -> u64
+fn written_code(written: Result<[u16; 4], OutOfRange>) -> u64
     ensures { result ≡ written_code written }
 {
     match written {
-        Written::Words(word1, word2, word3, word4) => {
-            (word1 as u64) * 0x1000000000000
-                + (word2 as u64) * 0x100000000
-                + (word3 as u64) * 0x10000
-                + (word4 as u64)
+        Ok(words) => {
+            u64::from(words[0]) * 0x1000000000000
+                + u64::from(words[1]) * 0x100000000
+                + u64::from(words[2]) * 0x10000
+                + u64::from(words[3])
         }
-        Written::OutOfRange => REFUSED,
+        Err(OutOfRange) => REFUSED,
     }
 }
 
-pub fn local_code(local: Local) -> u64
+pub fn local_code(local: Result<DateTime, OutOfRange>) -> u64
     ensures { result ≡ local_code local }
 {
     match local {
-        Local::Date(at) => {
-            DATE + (at.year as u64) * 0x10000000000
-                + (at.month as u64) * 0x100000000
-                + (at.day as u64) * 0x1000000
-                + (at.weekday as u64) * 0x10000
-                + (at.hour as u64) * 0x100
-                + (at.minute as u64)
+        Ok(at) => {
+            DATE + u64::from(at.year) * 0x10000000000
+                + u64::from(at.month) * 0x100000000
+                + u64::from(at.day) * 0x1000000
+                + u64::from(at.weekday) * 0x10000
+                + u64::from(at.hour) * 0x100
+                + u64::from(at.minute)
         }
-        Local::OutOfRange => REFUSED,
+        Err(OutOfRange) => REFUSED,
     }
 }

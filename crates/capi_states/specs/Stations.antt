@@ -1,15 +1,11 @@
 -- The station record: groups in bytes, and the record after them as numbers of eight bytes each.
-use Rattle.std.specs.Prelude.{ℕ, zero, suc, ◌+◌, ◌-◌, ◌*◌, ◌/◌, ◌%◌, ◌^◌, false, cond, List, [], ◌∷◌, ◌++◌, eqb, ltb, length, get_or, drop}
-use Rattle.std.specs.Prelude.{Ok, Err}
+use Rattle.std.specs.Prelude.{ℕ, zero, suc, ◌+◌, ◌-◌, ◌*◌, ◌/◌, ◌%◌, ◌^◌, Bool, false, cond, List, [], ◌∷◌, ◌++◌, eqb, ltb, length, get_or, drop}
+use Rattle.std.specs.Prelude.{Option, Some, None, Ok, Err}
 use Rattle.blocks.specs.Block.{Judged}
 use Rattle.blocks.specs.declared.BlockError.TheVariants.{Bad}
 use Rattle.groups.specs.declared.Group.{Group}
 use Rattle.groups.specs.Group.{empty_of, with_block_of}
 use Rattle.clock.specs.Local.{local_date_of}
-use Rattle.station.specs.declared.HeldPi.{HeldPi}
-use Rattle.station.specs.declared.HeldPi.TheVariants.{Pi, NoPi}
-use Rattle.station.specs.declared.HeldFlag.{HeldFlag}
-use Rattle.station.specs.declared.HeldFlag.TheVariants.{Flag, NoFlag}
 use Rattle.station.specs.declared.Record.{Record}
 use Rattle.station.specs.Record.{fresh_of, pi_of, pty_of, tp_of, name_characters_of, name_seen_of}
 use Rattle.station.specs.Record.{text_characters_of, text_seen_of, text_flag_of, af_list_of, held_clock_of}
@@ -49,14 +45,14 @@ record_in s = record_after s (length s / 9)
 -- ---- the numbers of a record
 
 -- PI: 1 above it; 0 for none
-abbrev pub pi_code : HeldPi → ℕ
-pi_code (Pi pi) = 2 ^ 16 + pi
-pi_code NoPi = 0
+abbrev pub pi_code : Option ℕ → ℕ
+pi_code (Some pi) = 2 ^ 16 + pi
+pi_code None = 0
 
 -- the text flag: 2 more than it; 0 for none
-abbrev pub flag_code : HeldFlag → ℕ
-flag_code (Flag flag) = 2 + bit_of flag
-flag_code NoFlag = 0
+abbrev pub flag_code : Option Bool → ℕ
+flag_code (Some flag) = 2 + bit_of flag
+flag_code None = 0
 
 -- first PI, PTY, TP, the text flag, the clock, and the local date
 abbrev pub head_of : Record → ℕ → ℕ
@@ -67,7 +63,12 @@ head_of station n =
     (cond (eqb n 3) (flag_code (text_flag_of station))
     (cond (eqb n 4) (held_code (held_clock_of station)) (local_code (local_date_of (held_clock_of station)))))))
 
--- the name: 8 characters, then 4 marks of what was seen
+-- characters, then the marks of which pairs of them were seen
+abbrev pub shown_number : List ℕ → List Bool → ℕ → ℕ
+shown_number characters seen n =
+    cond (ltb n (length characters)) (get_or characters n 0) (bit_of (get_or seen (n - length characters) false))
+
+-- the name: 8 characters, then 4 marks
 abbrev pub name_number : Record → ℕ → ℕ
 name_number station n =
     cond (ltb n 8) (get_or (name_characters_of station) n 0) (bit_of (get_or (name_seen_of station) (n - 8) false))

@@ -2,14 +2,13 @@
 // four words, high byte first, and a byte whose low four bits say which were good, bit 3 for the first.
 // Refused, with number 8: a buffer that is too short. It is then as it was.
 ghost use Rattle.std.specs.Prelude.{◌≡◌, cond, ◌+◌, ◌*◌, ◌<◌, ◌≤◌, ltb, length};
-ghost use Rattle.capi.specs.Groups.{bit_of};
 ghost use Rattle.capi_states.specs.Stations.{judged_of, pair_at, group_at, record_in, pi_code, flag_code};
-ghost use Rattle.capi_states.specs.Stations.{head_of, name_number, text_number, number_of, byte_of};
+ghost use Rattle.capi_states.specs.Stations.{head_of, shown_number, number_of, byte_of};
 ghost use Rattle.capi_states.specs.Stations.{record_size, record_buffer};
 
 use blocks::{BlockError, Judged};
 use groups::Group;
-use station::{HeldFlag, HeldPi, Record};
+use station::Record;
 
 // The bytes of a group.
 const GROUP_SIZE: usize = 9;
@@ -21,11 +20,6 @@ const TEXT_AT: usize = 18;
 
 const LIST_AT: usize = 114;
 
-// The characters of the name and of the text.
-const NAME_SIZE: usize = 8;
-
-const TEXT_SIZE: usize = 64;
-
 // The bytes of all numbers.
 const RECORD_SIZE: usize = 1128;
 
@@ -33,6 +27,7 @@ const RECORD_SIZE: usize = 1128;
 const TOO_SHORT: u8 = 8;
 
 // The record of the groups in some bytes, into a buffer.
+#[tactic(auto, unfolding(crate::specs::Stations::record_buffer))]
 pub fn bench_record(bytes: &[u8], out: &mut [u8]) -> u8
     ensures { (result ≡ cond (ltb (length out.old) record_size) 8 0)
         × (out.new ≡ record_buffer (record_in bytes.now) out.old) }
@@ -78,41 +73,25 @@ fn group_at(bytes: &[u8], at: usize) -> Group
 fn record_of(bytes: &[u8]) -> Record
     ensures { result ≡ record_in bytes.now }
 {
-    let groups = bytes.len() / GROUP_SIZE;
     let mut station = station::fresh();
-    let mut i: usize = 0;
-    while i < groups {
-        station = station::taken(station, group_at(bytes, GROUP_SIZE * i));
-        i += 1;
+    for group in bytes.chunks_exact(GROUP_SIZE) {
+        station = station::taken(station, group_at(group, 0));
     }
     station
 }
 
 // The PI held.
-fn pi_code(pi: HeldPi) -> u64
+fn pi_code(pi: Option<u16>) -> u64
     ensures { result ≡ pi_code pi }
 {
-    match pi {
-        HeldPi::Pi(word) => 0x10000 + (word as u64),
-        HeldPi::NoPi => 0,
-    }
+    pi.map_or(0, |word| 0x10000 + u64::from(word))
 }
 
 // The text flag held.
-fn flag_code(flag: HeldFlag) -> u64
+fn flag_code(flag: Option<bool>) -> u64
     ensures { result ≡ flag_code flag }
 {
-    match flag {
-        HeldFlag::Flag(on) => 2 + bit(on),
-        HeldFlag::NoFlag => 0,
-    }
-}
-
-// A yes or no as a bit.
-fn bit(on: bool) -> u64
-    ensures { (result ≡ bit_of on) × (result ≤ 1) }
-{
-    if on { 1 } else { 0 }
+    flag.map_or(0, |on| 2 + u64::from(on))
 }
 
 // The numbers in front.
@@ -121,54 +100,41 @@ fn head(station: Record, n: usize) -> u64
 {
     match n {
         0 => pi_code(station::read::pi(station)),
-        1 => station::read::pty(station) as u64,
-        2 => bit(station::read::tp(station)),
+        1 => u64::from(station::read::pty(station)),
+        2 => u64::from(station::read::tp(station)),
         3 => flag_code(station::read::text_flag(station)),
         4 => capi::times::held_code(station::read::held_clock(station)),
         _ => capi::times::local_code(station::read::local_date(station)),
     }
 }
 
-// The numbers of the name: its characters, then which pairs were seen.
-fn name_number(station: Record, n: usize) -> u64
-    requires { n < 12 }
-    ensures { result ≡ name_number station n }
+// The numbers of a name or a text: its characters, then which pairs of them were seen.
+fn shown_number(characters: &[u8], seen: &[bool], n: usize) -> u64
+    requires { n < length characters.now + length seen.now }
+    ensures { result ≡ shown_number characters.now seen.now n }
 {
-    if n < NAME_SIZE {
-        let characters = station::read::name_characters(station);
-        return characters[n] as u64;
+    match characters.get(n) {
+        Some(character) => u64::from(*character),
+        None => u64::from(seen[n - characters.len()]),
     }
-    let seen = station::read::name_seen(station);
-    bit(seen[n - NAME_SIZE])
-}
-
-// The numbers of the text.
-fn text_number(station: Record, n: usize) -> u64
-    requires { n < 96 }
-    ensures { result ≡ text_number station n }
-{
-    if n < TEXT_SIZE {
-        let characters = station::read::text_characters(station);
-        return characters[n] as u64;
-    }
-    let seen = station::read::text_seen(station);
-    bit(seen[n - TEXT_SIZE])
 }
 
 // Number n of a record.
+#[tactic(auto, unfolding(crate::specs::Stations::number_of))]
 fn number(station: Record, n: usize) -> u64
     ensures { result ≡ number_of station n }
 {
     if n < NAME_AT {
-        return head(station, n);
+        head(station, n)
+    } else if n < TEXT_AT {
+        let name = station.name;
+        shown_number(&name.characters, &name.seen, n - NAME_AT)
+    } else if n < LIST_AT {
+        let text = station.text.pairs;
+        shown_number(&text.characters, &text.seen, n - TEXT_AT)
+    } else {
+        u64::from(capi::af::list_code(station.af, n - LIST_AT))
     }
-    if n < TEXT_AT {
-        return name_number(station, n - NAME_AT);
-    }
-    if n < LIST_AT {
-        return text_number(station, n - TEXT_AT);
-    }
-    capi::af::list_code(station::read::af_list(station), n - LIST_AT) as u64
 }
 
 // Byte i of its numbers.
@@ -183,9 +149,7 @@ fn put_record(station: Record, out: &mut [u8])
     requires { record_size ≤ length out.old }
     ensures { out.new ≡ record_buffer station out.old }
 {
-    let mut i: usize = 0;
-    while i < RECORD_SIZE {
+    for i in 0..RECORD_SIZE {
         out[i] = byte(station, i);
-        i += 1;
     }
 }

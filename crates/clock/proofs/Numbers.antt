@@ -3,26 +3,25 @@ use Prim.Native.Nat.{ℕ, ◌≤◌, ◌<◌}
 use mathlib.Core.Path.{◌≡◌, refl, sym, ap, ◌∙◌}
 use mathlib.Core.Bool.{Bool, true, false, cond, not, or-true, true≢false}
 use mathlib.Core.Logic.{◌↔◌, inl, inr}
-use mathlib.Core.List.{[]}
+use mathlib.Core.List.{List, []}
 use native.Mathlib.Decide.{dec_lt}
 use native.Mathlib.Omega.{arith}
 use borrow.Author.Tests.{lt-ltb, le-ltb}
 use Rattle.clock.specs.declared.Clock.{Clock}
-use Rattle.clock.specs.declared.Held.{Held}
-use Rattle.clock.specs.declared.Held.TheVariants.{At, Nothing}
-use Rattle.clock.specs.declared.Written.{Written}
-use Rattle.clock.specs.declared.Local.{Local}
+use Rattle.clock.specs.declared.DateTime.{DateTime}
+use Rattle.clock.specs.declared.OutOfRange.{OutOfRange}
+use Rattle.std.specs.Prelude.{Option, Some, None, Result, Ok, Err}
 use Rattle.clock.specs.Range.{InDays, in_days, in_range, last_pty}
 use Rattle.clock.specs.Words.{clock_in, read_of, number_of_held, values_of_held, clock_values}
-use Rattle.clock.specs.Words.{word2_of, word3_of, word4_of, NoWords, write_refused, write_of}
-use Rattle.clock.specs.Words.{number_of_written, values_of_written, words_of}
+use Rattle.clock.specs.Words.{NoWords, write_refused, write_of}
+use Rattle.clock.specs.Words.{number_of_written, values_of_written, words_of, out_of_range}
 use Rattle.clock.specs.Local.{local_time_of, local_shown, NoDate, date_refused, local_date_of}
 use Rattle.clock.specs.Local.{number_of_local, values_of_local, date_time_values, date_values}
 use Rattle.clock.proofs.Ranges.{days_in_true, days_out_false, range_in_true, range_out_false}
 
 -- ---- Each answer that meets its equation has its number and values
 
-pub read_said : (word2 word3 word4 : ℕ) (r : Held) → r ≡ read_of word2 word3 word4 →
+pub read_said : (word2 word3 word4 : ℕ) (r : Option Clock) → r ≡ read_of word2 word3 word4 →
     (r ≡ read_of word2 word3 word4)
     × (number_of_held r ≡ 0)
     × (values_of_held r ≡ cond (in_range (clock_in word2 word3 word4)) (clock_values (clock_in word2 word3 word4)) [])
@@ -33,17 +32,17 @@ read_said word2 word3 word4 r e = (
   ap values_of_held e ∙ values (in_range (clock_in word2 word3 word4)),
 )
   where
-    number : (t : Bool) → number_of_held (cond (not t) Nothing (At (clock_in word2 word3 word4))) ≡ 0
+    number : (t : Bool) → number_of_held (cond (not t) None (Some (clock_in word2 word3 word4))) ≡ 0
     number true = refl
     number false = refl
 
     values : (t : Bool) →
-        values_of_held (cond (not t) Nothing (At (clock_in word2 word3 word4)))
+        values_of_held (cond (not t) None (Some (clock_in word2 word3 word4)))
         ≡ cond t (clock_values (clock_in word2 word3 word4)) []
     values true = refl
     values false = refl
 
-pub write_said : (pi : ℕ) (tp : Bool) (pty : ℕ) (clock : Clock) (r : Written) → r ≡ write_of pi tp pty clock →
+pub write_said : (pi : ℕ) (tp : Bool) (pty : ℕ) (clock : Clock) (r : Result (List ℕ) OutOfRange) → r ≡ write_of pi tp pty clock →
     (r ≡ write_of pi tp pty clock)
     × (number_of_written r ≡ cond (write_refused pty clock) 10 0)
     × (values_of_written r ≡ cond (write_refused pty clock) [] (words_of pi tp pty clock))
@@ -51,10 +50,8 @@ unfolding write_of number_of_written values_of_written
 write_said pi tp pty clock r e =
     (e, ap number_of_written e ∙ number (write_refused pty clock), ap values_of_written e ∙ values (write_refused pty clock))
   where
-    answer : Bool → Written
-    answer t =
-        cond t Written.OutOfRange
-        (Written.Words pi (word2_of tp pty clock) (word3_of clock) (word4_of clock))
+    answer : Bool → Result (List ℕ) OutOfRange
+    answer t = cond t (Err out_of_range) (Ok (words_of pi tp pty clock))
 
     number : (t : Bool) → number_of_written (answer t) ≡ cond t 10 0
     number true = refl
@@ -64,17 +61,17 @@ write_said pi tp pty clock r e =
     values true = refl
     values false = refl
 
-pub date_said : (held : Held) (r : Local) → r ≡ local_date_of held →
+pub date_said : (held : Option Clock) (r : Result DateTime OutOfRange) → r ≡ local_date_of held →
     (r ≡ local_date_of held)
     × (number_of_local r ≡ cond (date_refused held) 10 0)
     × (values_of_local r ≡ cond (date_refused held) [] (date_values held))
 unfolding local_date_of date_refused number_of_local values_of_local date_values
-date_said Nothing r e = (e, ap number_of_local e, ap values_of_local e)
-date_said (At clock) r e =
-    (e, ap number_of_local e ∙ number (date_refused (At clock)), ap values_of_local e ∙ values (date_refused (At clock)))
+date_said None r e = (e, ap number_of_local e, ap values_of_local e)
+date_said (Some clock) r e =
+    (e, ap number_of_local e ∙ number (date_refused (Some clock)), ap values_of_local e ∙ values (date_refused (Some clock)))
   where
-    answer : Bool → Local
-    answer t = cond t Local.OutOfRange (Local.Date (local_shown (local_time_of clock)))
+    answer : Bool → Result DateTime OutOfRange
+    answer t = cond t (Err out_of_range) (Ok (local_shown (local_time_of clock)))
 
     number : (t : Bool) → number_of_local (answer t) ≡ cond t 10 0
     number true = refl
@@ -90,44 +87,44 @@ ten-not-zero e = omega arith
 -- ---- Which answer is given
 
 pub read_at : (word2 word3 word4 : ℕ) → in_range (clock_in word2 word3 word4) ≡ true →
-    At (clock_in word2 word3 word4) ≡ read_of word2 word3 word4
+    Some (clock_in word2 word3 word4) ≡ read_of word2 word3 word4
 unfolding read_of
 read_at word2 word3 word4 e = rw e
 
 pub read_nothing : (word2 word3 word4 : ℕ) → in_range (clock_in word2 word3 word4) ≡ false →
-    Nothing ≡ read_of word2 word3 word4
+    None ≡ read_of word2 word3 word4
 unfolding read_of
 read_nothing word2 word3 word4 e = rw e
 
 module _ (pi : ℕ) (tp : Bool) (pty : ℕ) (clock : Clock) where
   pub write_words : in_range clock ≡ true → pty ≤ last_pty →
-      Written.Words pi (word2_of tp pty clock) (word3_of clock) (word4_of clock) ≡ write_of pi tp pty clock
+      Ok (words_of pi tp pty clock) ≡ write_of pi tp pty clock
   unfolding write_of write_refused
   write_words e h = rw (e, le-ltb last_pty pty h)
 
-  pub write_out : in_range clock ≡ false → Written.OutOfRange ≡ write_of pi tp pty clock
+  pub write_out : in_range clock ≡ false → Err out_of_range ≡ write_of pi tp pty clock
   unfolding write_of write_refused
   write_out e = rw e
 
-  pub write_over : last_pty < pty → Written.OutOfRange ≡ write_of pi tp pty clock
+  pub write_over : last_pty < pty → Err out_of_range ≡ write_of pi tp pty clock
   unfolding write_of write_refused
   write_over h = rw (lt-ltb last_pty pty h, or-true)
 
 module _ (clock : Clock) where
-  pub date_utc_out : in_days clock.day.0 ≡ false → Local.OutOfRange ≡ local_date_of (At clock)
+  pub date_utc_out : in_days clock.day.0 ≡ false → Err out_of_range ≡ local_date_of (Some clock)
   unfolding local_date_of date_refused
   date_utc_out e = rw e
 
-  pub date_local_out : in_days (local_time_of clock).day.0 ≡ false → Local.OutOfRange ≡ local_date_of (At clock)
+  pub date_local_out : in_days (local_time_of clock).day.0 ≡ false → Err out_of_range ≡ local_date_of (Some clock)
   unfolding local_date_of date_refused
   date_local_out e = rw (e, or-true)
 
   pub date_at : in_days clock.day.0 ≡ true → in_days (local_time_of clock).day.0 ≡ true →
-      Local.Date (local_shown (local_time_of clock)) ≡ local_date_of (At clock)
+      Ok (local_shown (local_time_of clock)) ≡ local_date_of (Some clock)
   unfolding local_date_of date_refused
   date_at utc local = rw (utc, local)
 
-pub date-none : Local.OutOfRange ≡ local_date_of Nothing
+pub date-none : Err out_of_range ≡ local_date_of None
 unfolding local_date_of
 date-none = refl
 
@@ -156,14 +153,14 @@ write_10 pi tp pty clock = (to (in_range clock) refl (dec_lt last_pty pty), from
     from (inr over) = ap number_of_written (sym (write_over pi tp pty clock over))
 
 -- The date: no clock held, or the UTC day or the local day out of range; nothing else is refused.
-pub date_10 : (held : Held) → (number_of_local (local_date_of held) ≡ 10) ↔ NoDate held
+pub date_10 : (held : Option Clock) → (number_of_local (local_date_of held) ≡ 10) ↔ NoDate held
 unfolding number_of_local
-date_10 Nothing = (λ e. tt, λ u. ap number_of_local (sym date-none))
-date_10 (At clock) = (to (in_days clock.day.0) refl (in_days (local_time_of clock).day.0) refl, from)
+date_10 None = (λ e. tt, λ u. ap number_of_local (sym date-none))
+date_10 (Some clock) = (to (in_days clock.day.0) refl (in_days (local_time_of clock).day.0) refl, from)
   where
     dated : in_days clock.day.0 ≡ true →
         in_days (local_time_of clock).day.0 ≡ true →
-        number_of_local (local_date_of (At clock)) ≡ 10 →
+        number_of_local (local_date_of (Some clock)) ≡ 10 →
         ⊥
     dated utc local e = ten-not-zero (ap number_of_local (date_at clock utc local) ∙ e)
 
@@ -174,13 +171,13 @@ date_10 (At clock) = (to (in_days clock.day.0) refl (in_days (local_time_of cloc
         in_days clock.day.0 ≡ a →
         (b : Bool) →
         in_days (local_time_of clock).day.0 ≡ b →
-        number_of_local (local_date_of (At clock)) ≡ 10 →
-        NoDate (At clock)
+        number_of_local (local_date_of (Some clock)) ≡ 10 →
+        NoDate (Some clock)
     to false r b s e = inl (out clock.day.0 r)
     to true r false s e = inr (out (local_time_of clock).day.0 s)
     to true r true s e = absurd (dated r s e)
 
-    from : NoDate (At clock) → number_of_local (local_date_of (At clock)) ≡ 10
+    from : NoDate (Some clock) → number_of_local (local_date_of (Some clock)) ≡ 10
     from (inl utc) = ap number_of_local (sym (date_utc_out clock (days_out_false clock.day.0 utc)))
     from (inr local) =
         ap number_of_local (sym (date_local_out clock (days_out_false (local_time_of clock).day.0 local)))

@@ -1,7 +1,8 @@
--- Clocks with equal parts are equal.
+-- Clocks with equal parts are equal, and a flag is a number.
 use Prim.Native.Nat.{ℕ}
-use mathlib.Core.Path.{◌≡◌}
-use mathlib.Core.Bool.{Bool}
+use mathlib.Core.Path.{◌≡◌, refl}
+use mathlib.Core.Bool.{Bool, true, false, cond}
+use Rattle.std.specs.Int.{from_bool}
 use Rattle.clock.specs.declared.Clock.{Clock}
 
 abbrev pub clock_with : ℕ → ℕ → ℕ → Bool → ℕ → Clock
@@ -16,3 +17,8 @@ pub clock-same : {day day' hour hour' minute minute' half half' : ℕ} {negative
     half ≡ half' →
     clock_with day hour minute negative half ≡ clock_with day' hour' minute' negative' half'
 clock-same d h m n f = cc
+
+-- A flag as a number.
+pub flag_number : (flag : Bool) → from_bool flag ≡ cond flag 1 0
+flag_number true = refl
+flag_number false = refl

@@ -3,11 +3,10 @@ use Prim.Native.Nat.{ℕ, ◌+◌}
 use mathlib.Core.Path.{◌≡◌, refl, sym, ◌∙◌}
 use mathlib.Core.Bool.{true}
 use lib.Dec.{T, leb, lit≤}
+use Rattle.std.specs.Prelude.{Some, Ok}
 use Rattle.clock.specs.declared.LocalDay.{LocalDay}
 use Rattle.clock.specs.declared.Clock.{Clock}
-use Rattle.clock.specs.declared.Held.{Held}
 use Rattle.clock.specs.declared.DateTime.{DateTime}
-use Rattle.clock.specs.declared.Local.{Local}
 use Rattle.clock.specs.declared.calendar.CalendarDate.{CalendarDate}
 use Rattle.clock.specs.Range.{in_days, in_range}
 use Rattle.clock.specs.Words.{clock_in, read_of}
@@ -28,7 +27,7 @@ evening-date = record { year = 1982; month = 9; day = 6; weekday = 1; hour = 18;
 abbrev pub local : ℕ → LocalDay
 local day = record { 0 = day }
 
-pub evening-read : read_of 0x4001 0x6145 0x7EEA ≡ Held.At evening
+pub evening-read : read_of 0x4001 0x6145 0x7EEA ≡ Some evening
 unfolding read_of clock_in in_range in_days
 evening-read = refl
 
@@ -57,6 +56,6 @@ pub date_last : date_of (local 88127) ≡ dated 2100 2 28
 unfolding days_to years_before months_before month_days leap
 date_last = date_of_lem 88127 (dated 2100 2 28) tt tt tt tt refl
 
-pub evening-local : local_date_of (Held.At evening) ≡ Local.Date evening-date
+pub evening-local : local_date_of (Some evening) ≡ Ok evening-date
 unfolding in_days local_time_of local_minutes date_time_of weekday_of
 evening-local = sym (date_at evening refl refl) ∙ rw date-evening

@@ -1,7 +1,7 @@
 -- The tests of a clock's ranges agree with the rule: true exactly if it holds.
-use Prim.Native.Nat.{ℕ, ◌≤◌}
+use Prim.Native.Nat.{ℕ}
 use mathlib.Core.Path.{◌≡◌, refl}
-use mathlib.Core.Bool.{Bool, true, false, ◌&&◌, and-true, and-eq-true_iff}
+use mathlib.Core.Bool.{Bool, true, false, ◌&&◌, and-eq-true_iff}
 use lib.Dec.{leb}
 use borrow.Author.Tests.{le-leb, leb-true}
 use Rattle.clock.specs.declared.Clock.{Clock}
@@ -63,18 +63,3 @@ days_out_false day out = not_true (in_days day) (λ e. out (in_days_true day e))
 
 pub range_out_false : (clock : Clock) → (InRange clock → ⊥) → in_range clock ≡ false
 range_out_false clock out = not_true (in_range clock) (λ e. out (in_range_true clock e))
-
--- Where hour, minute and offset are in range, the day decides.
-pub range_by_day : (clock : Clock) →
-    clock.hour ≤ last_hour →
-    clock.minute ≤ last_minute →
-    clock.half ≤ last_half →
-    in_range clock ≡ in_days clock.day.0
-unfolding in_range
-range_by_day clock hour minute half =
-    rw (
-      le-leb clock.hour last_hour hour,
-      le-leb clock.minute last_minute minute,
-      le-leb clock.half last_half half,
-    )
-    (rw (and-true, and-true, and-true))

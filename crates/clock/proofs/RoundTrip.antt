@@ -3,18 +3,19 @@
 use Prim.Native.Nat.{ℕ, ◌+◌, ◌-◌, ◌*◌, ◌/◌, ◌%◌, ◌^◌, ◌≤◌, ◌<◌}
 use mathlib.Core.Path.{◌≡◌, refl, sym, ap, ap₂, ◌∙◌}
 use mathlib.Core.Bool.{Bool, true, false, cond, not, ◌&&◌}
+use mathlib.Core.List.{List, [], ◌∷◌}
 use native.Mathlib.Nat.{div-div-eq-div-mul, div-add-mod', div-one, zero-add, add-zero}
 use native.Mathlib.Decide.{dec_lt}
 use native.Mathlib.Omega.{arith}
 use lib.Dec.{eqb, lit≤}
+use Rattle.std.specs.Prelude.{Some, Result, Ok, Err}
 use borrow.Author.Tests.{eq-eqb, ne_eqb}
 use Rattle.clock.specs.declared.Clock.{Clock}
-use Rattle.clock.specs.declared.Held.TheVariants.{At}
-use Rattle.clock.specs.declared.Written.TheVariants.{Words, OutOfRange}
+use Rattle.clock.specs.declared.OutOfRange.{OutOfRange}
 use Rattle.clock.specs.Range.{last_day, InRange, in_range, last_pty}
 use Rattle.clock.specs.Words.{bits, day_in, hour_in, half_in, sign_of, clock_in, read_of}
 use Rattle.clock.specs.Words.{word2_of, word3_of, word4_of, write_of}
-use Rattle.clock.specs.Words.{plain_of, Is4A, tp_in, pty_in, plain_word2, plain_word4}
+use Rattle.clock.specs.Words.{plain_of, Is4A, tp_in, pty_in, plain_word2, plain_word4, words_of, out_of_range}
 use Rattle.clock.proofs.Parts.{clock-same}
 use Rattle.clock.proofs.Ranges.{in_range_true}
 use Rattle.clock.proofs.Numbers.{read_at, read_nothing, write_words, write_out, write_over}
@@ -74,11 +75,11 @@ module _ (tp : Bool) (pty : ℕ) (clock : Clock) (within : InRange clock) (pty-t
 
 -- Written words come from a clock in range and a PTY of at most 31.
 written_range : (pi : ℕ) (tp : Bool) (pty : ℕ) (clock : Clock) (word1 word2 word3 word4 : ℕ) →
-    write_of pi tp pty clock ≡ Words word1 word2 word3 word4 →
+    write_of pi tp pty clock ≡ Ok (word1 ∷ word2 ∷ word3 ∷ word4 ∷ []) →
     (in_range clock ≡ true) × (pty ≤ last_pty)
 written_range pi tp pty clock word1 word2 word3 word4 e = at (in_range clock) refl (dec_lt last_pty pty)
   where
-    refused : OutOfRange ≡ write_of pi tp pty clock → ⊥
+    refused : Err out_of_range ≡ write_of pi tp pty clock → ⊥
     refused r =
         let z : ◌≡◌ {A = ℕ} 0 1 = cc (r ∙ e) in
         omega arith
@@ -90,18 +91,18 @@ written_range pi tp pty clock word1 word2 word3 word4 e = at (in_range clock) re
 
 -- What is written is the words, each in its place.
 pub written_words : (pi : ℕ) (tp : Bool) (pty : ℕ) (clock : Clock) (word1 word2 word3 word4 : ℕ) →
-    write_of pi tp pty clock ≡ Words word1 word2 word3 word4 →
+    write_of pi tp pty clock ≡ Ok (word1 ∷ word2 ∷ word3 ∷ word4 ∷ []) →
     (word1 ≡ pi) × (word2 ≡ word2_of tp pty clock) × (word3 ≡ word3_of clock) × (word4 ≡ word4_of clock)
 written_words pi tp pty clock word1 word2 word3 word4 e =
     let range : (in_range clock ≡ true) × (pty ≤ last_pty) = written_range pi tp pty clock word1 word2 word3 word4 e in
-    let words : Words pi (word2_of tp pty clock) (word3_of clock) (word4_of clock) ≡ Words word1 word2 word3 word4 =
+    let words : Ok (words_of pi tp pty clock) ≡ Ok (word1 ∷ word2 ∷ word3 ∷ word4 ∷ []) =
     write_words pi tp pty clock range.0 range.1 ∙ e in
     (cc, cc, cc, cc)
 
 -- What is written reads back the same; a negative sign with offset 0 reads back as plain 0.
 pub read-write : (pi : ℕ) (tp : Bool) (pty : ℕ) (clock : Clock) (word1 word2 word3 word4 : ℕ) →
-    write_of pi tp pty clock ≡ Words word1 word2 word3 word4 →
-    read_of word2 word3 word4 ≡ At (plain_of clock)
+    write_of pi tp pty clock ≡ Ok (word1 ∷ word2 ∷ word3 ∷ word4 ∷ []) →
+    read_of word2 word3 word4 ≡ Some (plain_of clock)
 read-write pi tp pty clock word1 word2 word3 word4 e =
     let range : (in_range clock ≡ true) × (pty ≤ last_pty) = written_range pi tp pty clock word1 word2 word3 word4 e in
     let within : InRange clock = in_range_true clock range.0 in
@@ -112,7 +113,7 @@ read-write pi tp pty clock word1 word2 word3 word4 e =
     (sym
     (read_at (word2_of tp pty clock) (word3_of clock) (word4_of clock)
     (ap in_range (clock_back tp pty clock within range.1) ∙ plain_range clock range.0))
-    ∙ ap At (clock_back tp pty clock within range.1))
+    ∙ ap Some (clock_back tp pty clock within range.1))
 
 -- A clock that is not negative with offset 0 is its own plain form, so it reads back the same in every field.
 pub plain-same : (clock : Clock) → (clock.negative ≡ true → 1 ≤ clock.half) → plain_of clock ≡ clock
@@ -144,7 +145,7 @@ head-bits word2 tp pty high e tp-to pty-to high-to =
 
 -- The head of what is written: a 4A with the given PI, TP and PTY, bits 4-2 of word 2 zero.
 pub written-head : (pi : ℕ) (tp : Bool) (pty : ℕ) (clock : Clock) (word1 word2 word3 word4 : ℕ) →
-    write_of pi tp pty clock ≡ Words word1 word2 word3 word4 →
+    write_of pi tp pty clock ≡ Ok (word1 ∷ word2 ∷ word3 ∷ word4 ∷ []) →
     (word1 ≡ pi) × Is4A word2 × (tp_in word2 ≡ tp) × (pty_in word2 ≡ pty) × (bits 4 2 word2 ≡ 0)
 unfolding word2_of
 written-head pi tp pty clock word1 word2 word3 word4 e =
@@ -242,23 +243,24 @@ module _ (word2 word3 word4 : ℕ) (fits2 : word2 < 2 ^ 16) (fits3 : word3 < 2 ^
 
   written : (pi : ℕ) → Is4A word2 → in_range (clock_in word2 word3 word4) ≡ true →
       write_of pi (tp_in word2) (pty_in word2) (clock_in word2 word3 word4)
-      ≡ Words pi (plain_word2 word2) word3 (plain_word4 word4)
+      ≡ Ok (pi ∷ plain_word2 word2 ∷ word3 ∷ plain_word4 word4 ∷ [])
   written pi group r =
       sym (write_words pi (tp_in word2) (pty_in word2) (clock_in word2 word3 word4) r (omega arith))
       ∙ words (word2-back group) word3-back word4-back
     where
-      words : {a a' b b' d d' : ℕ} → a ≡ a' → b ≡ b' → d ≡ d' → Words pi a b d ≡ Words pi a' b' d'
+      words : {a a' b b' d d' : ℕ} → a ≡ a' → b ≡ b' → d ≡ d' →
+          ◌≡◌ {A = Result (List ℕ) OutOfRange} (Ok (pi ∷ a ∷ b ∷ d ∷ [])) (Ok (pi ∷ a' ∷ b' ∷ d' ∷ []))
       words p q s = cc
 
   -- A 4A of any words in range, read and written again with the PI and its own TP and PTY, gives the same words but for
   -- bits 4-2 of word 2 and the sign of offset 0.
-  pub write_read : (pi : ℕ) (clock : Clock) → Is4A word2 → read_of word2 word3 word4 ≡ At clock →
-      write_of pi (tp_in word2) (pty_in word2) clock ≡ Words pi (plain_word2 word2) word3 (plain_word4 word4)
+  pub write_read : (pi : ℕ) (clock : Clock) → Is4A word2 → read_of word2 word3 word4 ≡ Some clock →
+      write_of pi (tp_in word2) (pty_in word2) clock ≡ Ok (pi ∷ plain_word2 word2 ∷ word3 ∷ plain_word4 word4 ∷ [])
   unfolding read_of
   write_read pi clock group e = at (in_range (clock_in word2 word3 word4)) refl
     where
       at : (t : Bool) → in_range (clock_in word2 word3 word4) ≡ t →
-          write_of pi (tp_in word2) (pty_in word2) clock ≡ Words pi (plain_word2 word2) word3 (plain_word4 word4)
+          write_of pi (tp_in word2) (pty_in word2) clock ≡ Ok (pi ∷ plain_word2 word2 ∷ word3 ∷ plain_word4 word4 ∷ [])
       at true r =
           let same : clock ≡ clock_in word2 word3 word4 = cc (read_at word2 word3 word4 r ∙ e) in
           rw same (written pi group r)

@@ -1,14 +1,12 @@
 -- The local date and time of a clock: UTC plus 30 minutes × offset, with the day that this leads to.
-use Rattle.std.specs.Prelude.{ℕ, ◌+◌, ◌-◌, ◌*◌, ◌/◌, ◌%◌, Bool, true, cond, not, ◌||◌, ◌⊎◌, List, [], ◌∷◌}
+use Rattle.std.specs.Prelude.{ℕ, ◌+◌, ◌-◌, ◌*◌, ◌/◌, ◌%◌, Bool, true, cond, not, ◌||◌, ◌⊎◌, List, [], ◌∷◌, Option, Some, None, Result, Ok, Err}
 use Rattle.clock.specs.declared.Clock.{Clock}
-use Rattle.clock.specs.declared.Held.{Held}
-use Rattle.clock.specs.declared.Held.TheVariants.{At, Nothing}
 use Rattle.clock.specs.declared.DateTime.{DateTime}
-use Rattle.clock.specs.declared.Local.{Local}
-use Rattle.clock.specs.declared.Local.TheVariants.{Date, OutOfRange}
+use Rattle.clock.specs.declared.OutOfRange.{OutOfRange}
 use Rattle.clock.specs.declared.LocalTime.{LocalTime}
 use Rattle.clock.specs.declared.calendar.CalendarDate.{CalendarDate}
 use Rattle.clock.specs.Range.{InDays, in_days}
+use Rattle.clock.specs.Words.{out_of_range}
 use Rattle.clock.specs.Calendar.{date_of, weekday_of}
 
 -- The minutes of a day, of an hour and of a half hour.
@@ -43,14 +41,14 @@ local_time_of clock =
     }
 
 -- Refused: no clock held, the UTC day out of range, or the local day out of range.
-abbrev pub NoDate : Held → Type 0
-NoDate Nothing = Unit {0}
-NoDate (At clock) = (InDays clock.day.0 → ⊥) ⊎ (InDays (local_time_of clock).day.0 → ⊥)
+abbrev pub NoDate : Option Clock → Type 0
+NoDate None = Unit {0}
+NoDate (Some clock) = (InDays clock.day.0 → ⊥) ⊎ (InDays (local_time_of clock).day.0 → ⊥)
 
 -- The same as a test.
-unfoldable pub date_refused : Held → Bool
-date_refused Nothing = true
-date_refused (At clock) = not (in_days clock.day.0) || not (in_days (local_time_of clock).day.0)
+unfoldable pub date_refused : Option Clock → Bool
+date_refused None = true
+date_refused (Some clock) = not (in_days clock.day.0) || not (in_days (local_time_of clock).day.0)
 
 -- A date, a weekday and the minutes since midnight as a date and time.
 unfoldable pub date_time_of : CalendarDate → ℕ → ℕ → DateTime
@@ -68,25 +66,26 @@ date_time_of date weekday minutes =
 abbrev pub local_shown : LocalTime → DateTime
 local_shown local = date_time_of (date_of local.day) (weekday_of local.day) local.minutes
 
-unfoldable pub local_date_of : Held → Local
-local_date_of Nothing = OutOfRange
-local_date_of (At clock) = cond (date_refused (At clock)) OutOfRange (Date (local_shown (local_time_of clock)))
+unfoldable pub local_date_of : Option Clock → Result DateTime OutOfRange
+local_date_of None = Err out_of_range
+local_date_of (Some clock) =
+    cond (date_refused (Some clock)) (Err out_of_range) (Ok (local_shown (local_time_of clock)))
 
 -- The table's number of each case.
-unfoldable pub number_of_local : Local → ℕ
-number_of_local OutOfRange = 10
-number_of_local (Date at) = 0
+unfoldable pub number_of_local : Result DateTime OutOfRange → ℕ
+number_of_local (Err e) = 10
+number_of_local (Ok at) = 0
 
 -- The values of a local date and time.
 abbrev pub date_time_values : DateTime → List ℕ
 date_time_values at = at.year ∷ at.month ∷ at.day ∷ at.weekday ∷ at.hour ∷ at.minute ∷ []
 
 -- The values of each case.
-unfoldable pub values_of_local : Local → List ℕ
-values_of_local OutOfRange = []
-values_of_local (Date at) = date_time_values at
+unfoldable pub values_of_local : Result DateTime OutOfRange → List ℕ
+values_of_local (Err e) = []
+values_of_local (Ok at) = date_time_values at
 
 -- The values of the clock that is held, if one is: its local date and time.
-unfoldable pub date_values : Held → List ℕ
-date_values Nothing = []
-date_values (At clock) = date_time_values (local_shown (local_time_of clock))
+unfoldable pub date_values : Option Clock → List ℕ
+date_values None = []
+date_values (Some clock) = date_time_values (local_shown (local_time_of clock))

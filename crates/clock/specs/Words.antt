@@ -1,10 +1,7 @@
 -- The words of a 4A group: the clock that they carry, and the words that a clock is written as.
-use Rattle.std.specs.Prelude.{ℕ, ◌+◌, ◌-◌, ◌*◌, ◌/◌, ◌%◌, ◌^◌, ◌<◌, ◌≡◌, Bool, cond, not, ◌&&◌, ◌||◌, ◌⊎◌, List, [], ◌∷◌, eqb, ltb}
+use Rattle.std.specs.Prelude.{ℕ, ◌+◌, ◌-◌, ◌*◌, ◌/◌, ◌%◌, ◌^◌, ◌<◌, ◌≡◌, Bool, cond, not, ◌&&◌, ◌||◌, ◌⊎◌, List, [], ◌∷◌, eqb, ltb, Option, Some, None, Result, Ok, Err}
 use Rattle.clock.specs.declared.Clock.{Clock}
-use Rattle.clock.specs.declared.Held.{Held}
-use Rattle.clock.specs.declared.Held.TheVariants.{At, Nothing}
-use Rattle.clock.specs.declared.Written.{Written}
-use Rattle.clock.specs.declared.Written.TheVariants.{Words, OutOfRange}
+use Rattle.clock.specs.declared.OutOfRange.{OutOfRange}
 use Rattle.clock.specs.Range.{InRange, in_range, last_pty}
 
 -- Bits high to low of a word, as a number.
@@ -36,23 +33,23 @@ clock_in word2 word3 word4 =
     }
 
 -- A clock is taken only if it is in range.
-unfoldable pub read_of : ℕ → ℕ → ℕ → Held
+unfoldable pub read_of : ℕ → ℕ → ℕ → Option Clock
 read_of word2 word3 word4 =
-    cond (not (in_range (clock_in word2 word3 word4))) Nothing (At (clock_in word2 word3 word4))
+    cond (not (in_range (clock_in word2 word3 word4))) None (Some (clock_in word2 word3 word4))
 
 -- Reading is no refusal of the table: number 0 in both cases.
-unfoldable pub number_of_held : Held → ℕ
-number_of_held (At clock) = 0
-number_of_held Nothing = 0
+unfoldable pub number_of_held : Option Clock → ℕ
+number_of_held (Some clock) = 0
+number_of_held None = 0
 
 -- The values of a clock: day, hour, minute, sign, half hours.
 abbrev pub clock_values : Clock → List ℕ
 clock_values clock =
     clock.day.0 ∷ clock.hour ∷ clock.minute ∷ cond clock.negative 1 0 ∷ clock.half ∷ []
 
-unfoldable pub values_of_held : Held → List ℕ
-values_of_held (At clock) = clock_values clock
-values_of_held Nothing = []
+unfoldable pub values_of_held : Option Clock → List ℕ
+values_of_held (Some clock) = clock_values clock
+values_of_held None = []
 
 -- The sign is written 0 with offset 0.
 abbrev pub sign_of : Clock → ℕ
@@ -78,22 +75,26 @@ NoWords pty clock = (InRange clock → ⊥) ⊎ (last_pty < pty)
 unfoldable pub write_refused : ℕ → Clock → Bool
 write_refused pty clock = not (in_range clock) || ltb last_pty pty
 
-unfoldable pub write_of : ℕ → Bool → ℕ → Clock → Written
-write_of pi tp pty clock =
-    cond (write_refused pty clock) OutOfRange (Words pi (word2_of tp pty clock) (word3_of clock) (word4_of clock))
+-- The refusal, which says no more than that something is out of range.
+abbrev pub out_of_range : OutOfRange
+out_of_range = record {}
 
--- The table's number of each case.
-unfoldable pub number_of_written : Written → ℕ
-number_of_written OutOfRange = 10
-number_of_written (Words word1 word2 word3 word4) = 0
-
--- The values of each case: the four words.
-unfoldable pub values_of_written : Written → List ℕ
-values_of_written OutOfRange = []
-values_of_written (Words word1 word2 word3 word4) = word1 ∷ word2 ∷ word3 ∷ word4 ∷ []
-
+-- The four words.
 abbrev pub words_of : ℕ → Bool → ℕ → Clock → List ℕ
 words_of pi tp pty clock = pi ∷ word2_of tp pty clock ∷ word3_of clock ∷ word4_of clock ∷ []
+
+unfoldable pub write_of : ℕ → Bool → ℕ → Clock → Result (List ℕ) OutOfRange
+write_of pi tp pty clock = cond (write_refused pty clock) (Err out_of_range) (Ok (words_of pi tp pty clock))
+
+-- The table's number of each case.
+unfoldable pub number_of_written : Result (List ℕ) OutOfRange → ℕ
+number_of_written (Err e) = 10
+number_of_written (Ok words) = 0
+
+-- The values of each case: the four words.
+unfoldable pub values_of_written : Result (List ℕ) OutOfRange → List ℕ
+values_of_written (Err e) = []
+values_of_written (Ok words) = words
 
 -- ---- What a clock read back, and words written back, may differ in
 

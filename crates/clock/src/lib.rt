@@ -34,17 +34,9 @@ pub struct Clock {
     pub half: u8,
 }
 
-#[derive(Clone, Copy)]
-pub enum Held {
-    At(Clock),
-    Nothing,
-}
-
-#[derive(Clone, Copy)]
-pub enum Written {
-    Words(u16, u16, u16, u16),
-    OutOfRange,
-}
+// Refused, with number 10.
+#[derive(Clone, Copy, PartialEq, Eq, Debug)]
+pub struct OutOfRange;
 
 // A local date and time; Monday is weekday 1.
 #[derive(Clone, Copy)]
@@ -55,12 +47,6 @@ pub struct DateTime {
     pub weekday: u8,
     pub hour: u8,
     pub minute: u8,
-}
-
-#[derive(Clone, Copy)]
-pub enum Local {
-    Date(DateTime),
-    OutOfRange,
 }
 
 // A local day and the minutes since its midnight.
@@ -97,15 +83,16 @@ const MINUTES_AN_HOUR: u32 = 60;
 const MINUTES_A_HALF: u32 = 30;
 
 // The clock in words 2, 3 and 4 of a 4A, if it is in range.
-pub fn read(word2: u16, word3: u16, word4: u16) -> Held
+pub fn read(word2: u16, word3: u16, word4: u16) -> Option<Clock>
     ensures { (result ≡ read_of word2 word3 word4) × (number_of_held result ≡ 0)
         × (values_of_held result ≡ cond (in_range (clock_in word2 word3 word4)) (clock_values (clock_in word2 word3 word4)) []) }
 {
     let clock = clock_in(word2, word3, word4);
     if range::in_range(clock) {
-        return Held::At(clock);
+        Some(clock)
+    } else {
+        None
     }
-    Held::Nothing
 }
 
 fn clock_in(word2: u16, word3: u16, word4: u16) -> Clock
@@ -113,85 +100,66 @@ fn clock_in(word2: u16, word3: u16, word4: u16) -> Clock
 {
     let half = (word4 % SIGN_AT) as u8;
     Clock {
-        day: UtcDay(((word2 % 4) as u32) * DAY_HIGH + ((word3 / 2) as u32)),
+        day: UtcDay(u32::from(word2 % 4) * DAY_HIGH + u32::from(word3 / 2)),
         hour: ((word3 % 2) * HOUR_HIGH + word4 / HOUR_AT) as u8,
         minute: (word4 / MINUTE_AT % MINUTE_SIZE) as u8,
-        negative: (word4 / SIGN_AT % 2 == 1) & (half != 0),
-        half: half,
+        negative: word4 / SIGN_AT % 2 == 1 && half != 0,
+        half,
     }
 }
 
 // The four words of a 4A with this PI, TP, PTY and clock.
-pub fn write(pi: u16, tp: bool, pty: u8, clock: Clock) -> Written
+pub fn write(pi: u16, tp: bool, pty: u8, clock: Clock) -> Result<[u16; 4], OutOfRange>
     ensures { (result ≡ write_of pi tp pty clock) × (number_of_written result ≡ cond (write_refused pty clock) 10 0)
         × (values_of_written result ≡ cond (write_refused pty clock) [] (words_of pi tp pty clock)) }
 {
-    if range::LAST_PTY < pty {
-        return Written::OutOfRange;
+    if range::LAST_PTY < pty || !range::in_range(clock) {
+        return Err(OutOfRange);
     }
-    if range::in_range(clock) {
-        return Written::Words(pi, word2(tp, pty, clock), word3(clock), word4(clock));
-    }
-    Written::OutOfRange
-}
-
-// A flag as one bit.
-fn bit(flag: bool) -> u16
-    ensures { (result ≡ cond flag 1 0) × (result ≤ 1) }
-{
-    if flag {
-        return 1;
-    }
-    0
+    Ok([pi, word2(tp, pty, clock), word3(clock), word4(clock)])
 }
 
 fn word2(tp: bool, pty: u8, clock: Clock) -> u16
     requires { InRange clock × (pty ≤ last_pty) }
     ensures { result ≡ word2_of tp pty clock }
 {
-    let day = clock.day;
-    TYPE_4A + bit(tp) * TP_AT + (pty as u16) * PTY_AT + ((day.0 / DAY_HIGH) as u16)
+    TYPE_4A + u16::from(tp) * TP_AT + u16::from(pty) * PTY_AT + (clock.day.0 / DAY_HIGH) as u16
 }
 
 fn word3(clock: Clock) -> u16
     requires { InRange clock }
     ensures { result ≡ word3_of clock }
 {
-    let day = clock.day;
-    ((day.0 % DAY_HIGH) as u16) * 2 + (clock.hour as u16) / HOUR_HIGH
+    (clock.day.0 % DAY_HIGH) as u16 * 2 + u16::from(clock.hour) / HOUR_HIGH
 }
 
 fn word4(clock: Clock) -> u16
     requires { InRange clock }
     ensures { result ≡ word4_of clock }
 {
-    let sign = bit(clock.negative & (clock.half != 0));
-    ((clock.hour as u16) % HOUR_HIGH) * HOUR_AT
-        + (clock.minute as u16) * MINUTE_AT
+    let sign = u16::from(clock.negative && clock.half != 0);
+    u16::from(clock.hour) % HOUR_HIGH * HOUR_AT
+        + u16::from(clock.minute) * MINUTE_AT
         + sign * SIGN_AT
-        + (clock.half as u16)
+        + u16::from(clock.half)
 }
 
 // The local date and time of the clock that is held.
-pub fn local_date(held: Held) -> Local
+pub fn local_date(held: Option<Clock>) -> Result<DateTime, OutOfRange>
     ensures { (result ≡ local_date_of held) × (number_of_local result ≡ cond (date_refused held) 10 0)
         × (values_of_local result ≡ cond (date_refused held) [] (date_values held)) }
 {
-    let Held::At(clock) = held else {
-        return Local::OutOfRange;
-    };
-    let utc = clock.day;
-    if !range::in_days(utc.0) {
-        return Local::OutOfRange;
+    let clock = held.ok_or(OutOfRange)?;
+    if !range::in_days(clock.day.0) {
+        return Err(OutOfRange);
     }
     let local = local_time(clock);
-    let day = local.day;
-    if !range::in_days(day.0) {
-        return Local::OutOfRange;
+    if !range::in_days(local.day.0) {
+        return Err(OutOfRange);
     }
-    let date = calendar::date(day);
-    let weekday = calendar::weekday(day);
-    Local::Date(date_time(date, weekday, local.minutes))
+    let date = calendar::date(local.day);
+    let weekday = calendar::weekday(local.day);
+    Ok(date_time(date, weekday, local.minutes))
 }
 
 // The offset rule: the only way from a UTC day to a local day.
@@ -199,9 +167,10 @@ fn local_time(clock: Clock) -> LocalTime
     requires { InDays clock.day.0 }
     ensures { result ≡ local_time_of clock }
 {
-    let day = clock.day;
-    let utc = day.0 * MINUTES_A_DAY + (clock.hour as u32) * MINUTES_AN_HOUR + (clock.minute as u32);
-    let local = shifted(utc, clock.negative, (clock.half as u32) * MINUTES_A_HALF);
+    let utc = clock.day.0 * MINUTES_A_DAY
+        + u32::from(clock.hour) * MINUTES_AN_HOUR
+        + u32::from(clock.minute);
+    let local = shifted(utc, clock.negative, u32::from(clock.half) * MINUTES_A_HALF);
     LocalTime {
         day: LocalDay(local / MINUTES_A_DAY),
         minutes: local % MINUTES_A_DAY,
@@ -214,9 +183,10 @@ fn shifted(minutes: u32, negative: bool, offset: u32) -> u32
     ensures { result ≡ cond negative (minutes - offset) (minutes + offset) }
 {
     if negative {
-        return minutes - offset;
+        minutes - offset
+    } else {
+        minutes + offset
     }
-    minutes + offset
 }
 
 fn date_time(date: CalendarDate, weekday: u8, minutes: u32) -> DateTime
@@ -227,7 +197,7 @@ fn date_time(date: CalendarDate, weekday: u8, minutes: u32) -> DateTime
         year: date.year,
         month: date.month,
         day: date.day,
-        weekday: weekday,
+        weekday,
         hour: (minutes / MINUTES_AN_HOUR) as u8,
         minute: (minutes % MINUTES_AN_HOUR) as u8,
     }

@@ -19,27 +19,14 @@ pub(crate) const LAST_PTY: u8 = 31;
 pub(crate) fn in_days(day: u32) -> bool
     ensures { result ≡ in_days day }
 {
-    if day < FIRST_DAY {
-        return false;
-    }
-    if LAST_DAY < day {
-        return false;
-    }
-    true
+    (FIRST_DAY..=LAST_DAY).contains(&day)
 }
 
 pub(crate) fn in_range(clock: Clock) -> bool
     ensures { result ≡ in_range clock }
 {
-    if LAST_HOUR < clock.hour {
-        return false;
-    }
-    if LAST_MINUTE < clock.minute {
-        return false;
-    }
-    if LAST_HALF < clock.half {
-        return false;
-    }
-    let day = clock.day;
-    in_days(day.0)
+    in_days(clock.day.0)
+        && clock.hour <= LAST_HOUR
+        && clock.minute <= LAST_MINUTE
+        && clock.half <= LAST_HALF
 }

@@ -1,7 +1,7 @@
 // Runs the edges of the clock and writes a line for each: what is read, what is written, and the local date.
 #![tactic(auto)]
 
-use clock::{Clock, Held, Local, UtcDay, Written};
+use clock::{Clock, OutOfRange, UtcDay};
 use std::io;
 
 fn main(rt: HostRuntime) -> io::Result<()> {
@@ -24,88 +24,64 @@ fn main(rt: HostRuntime) -> io::Result<()> {
     write_line(&rt, 32, at(88127, 23, 59, true, 24))?;
     write_line(&rt, 0, at(45218, 0, 0, true, 0))?;
 
-    date_line(&rt, Held::Nothing)?;
-    date_line(&rt, Held::At(at(45218, 23, 59, true, 10)))?;
-    date_line(&rt, Held::At(at(15078, 0, 0, false, 48)))?;
-    date_line(&rt, Held::At(at(15079, 0, 0, false, 0)))?;
-    date_line(&rt, Held::At(at(15079, 0, 0, true, 1)))?;
-    date_line(&rt, Held::At(at(15079, 0, 30, true, 1)))?;
-    date_line(&rt, Held::At(at(88127, 0, 0, false, 0)))?;
-    date_line(&rt, Held::At(at(88127, 23, 29, false, 1)))?;
-    date_line(&rt, Held::At(at(88127, 23, 30, false, 1)))?;
-    date_line(&rt, Held::At(at(88128, 0, 0, true, 48)))?;
-    date_line(&rt, Held::At(at(51603, 12, 0, false, 24)))?;
-    date_line(&rt, Held::At(at(45218, 255, 255, false, 255)))
+    date_line(&rt, None)?;
+    date_line(&rt, Some(at(45218, 23, 59, true, 10)))?;
+    date_line(&rt, Some(at(15078, 0, 0, false, 48)))?;
+    date_line(&rt, Some(at(15079, 0, 0, false, 0)))?;
+    date_line(&rt, Some(at(15079, 0, 0, true, 1)))?;
+    date_line(&rt, Some(at(15079, 0, 30, true, 1)))?;
+    date_line(&rt, Some(at(88127, 0, 0, false, 0)))?;
+    date_line(&rt, Some(at(88127, 23, 29, false, 1)))?;
+    date_line(&rt, Some(at(88127, 23, 30, false, 1)))?;
+    date_line(&rt, Some(at(88128, 0, 0, true, 48)))?;
+    date_line(&rt, Some(at(51603, 12, 0, false, 24)))?;
+    date_line(&rt, Some(at(45218, 255, 255, false, 255)))
 }
 
 fn at(day: u32, hour: u8, minute: u8, negative: bool, half: u8) -> Clock {
     Clock {
         day: UtcDay(day),
-        hour: hour,
-        minute: minute,
-        negative: negative,
-        half: half,
+        hour,
+        minute,
+        negative,
+        half,
     }
 }
 
 // `read` and the clock's fields, the sign as 1 for negative; or `read nothing`.
 fn read_line(rt: &impl Print, word2: u16, word3: u16, word4: u16) -> io::Result<()> {
-    rt.write_all(b"read")?;
     match clock::read(word2, word3, word4) {
-        Held::At(c) => {
-            let day = c.day;
-            number(rt, day.0 as u64)?;
-            number(rt, c.hour as u64)?;
-            number(rt, c.minute as u64)?;
-            number(rt, c.negative as u64)?;
-            number(rt, c.half as u64)?;
+        Some(at) => {
+            let sign = u8::from(at.negative);
+            println!(rt;
+                "read {} {} {} {sign} {}",
+                at.day.0, at.hour, at.minute, at.half
+            )
         }
-        Held::Nothing => {
-            rt.write_all(b" nothing")?;
-        }
+        None => println!(rt; "read nothing"),
     }
-    rt.write_all(b"\n")
 }
 
 // `write`, the number of the answer, and the four words.
-fn write_line(rt: &impl Print, pty: u8, c: Clock) -> io::Result<()> {
-    rt.write_all(b"write")?;
-    match clock::write(0x1001, true, pty, c) {
-        Written::Words(word1, word2, word3, word4) => {
-            number(rt, 0)?;
-            number(rt, word1 as u64)?;
-            number(rt, word2 as u64)?;
-            number(rt, word3 as u64)?;
-            number(rt, word4 as u64)?;
+fn write_line(rt: &impl Print, pty: u8, clock: Clock) -> io::Result<()> {
+    match clock::write(0x1001, true, pty, clock) {
+        Ok(words) => {
+            println!(rt;
+                "write 0 {} {} {} {}",
+                words[0], words[1], words[2], words[3]
+            )
         }
-        Written::OutOfRange => {
-            number(rt, 10)?;
-        }
+        Err(OutOfRange) => println!(rt; "write 10"),
     }
-    rt.write_all(b"\n")
 }
 
 // `date`, the number of the answer, and year, month, day, weekday, hour, minute.
-fn date_line(rt: &impl Print, held: Held) -> io::Result<()> {
-    rt.write_all(b"date")?;
+fn date_line(rt: &impl Print, held: Option<Clock>) -> io::Result<()> {
     match clock::local_date(held) {
-        Local::Date(d) => {
-            number(rt, 0)?;
-            number(rt, d.year as u64)?;
-            number(rt, d.month as u64)?;
-            number(rt, d.day as u64)?;
-            number(rt, d.weekday as u64)?;
-            number(rt, d.hour as u64)?;
-            number(rt, d.minute as u64)?;
+        Ok(at) => {
+            print!(rt; "date 0 {} {} {}", at.year, at.month, at.day)?;
+            println!(rt; " {} {} {}", at.weekday, at.hour, at.minute)
         }
-        Local::OutOfRange => {
-            number(rt, 10)?;
-        }
+        Err(OutOfRange) => println!(rt; "date 10"),
     }
-    rt.write_all(b"\n")
-}
-
-fn number(rt: &impl Print, n: u64) -> io::Result<()> {
-    rt.write_all(b" ")?;
-    rt.print(n)
 }

@@ -11,7 +11,7 @@ use Rattle.bits.specs.Bytes.{bit_at, Bytes}
 use Rattle.groups.specs.declared.Group.{Group}
 use Rattle.groups.specs.Content.{text_flag}
 use Rattle.history.specs.Streams.{sent_groups}
-use Rattle.station.specs.declared.HeldFlag.TheVariants.{Flag}
+use Rattle.std.specs.Prelude.{Some}
 use Rattle.station.specs.Record.{fresh_of as fresh_record}
 use Rattle.station.specs.Update.{updated_all}
 use Rattle.station.specs.History.{some, carried_in, has_name, has_text}
@@ -89,9 +89,9 @@ module _ (k s : List ℕ) (bytes : Bytes k) (long : length k ≡ 80) (rules : Ru
         brought (g, l, text t e) =
             some_sent s (λ x. has_text p (carried_in x)) (groups_in s) g l (text_has s g p t (omega arith))
 
-    text_is : ((updated_all fresh_record groups).text.characters ≡ text_of k)
-        × ((updated_all fresh_record groups).text.seen ≡ replicate text_pairs true)
-        × ((updated_all fresh_record groups).text.flag ≡ Flag flag)
+    text_is : ((updated_all fresh_record groups).text.pairs.characters ≡ text_of k)
+        × ((updated_all fresh_record groups).text.pairs.seen ≡ replicate text_pairs true)
+        × ((updated_all fresh_record groups).text.flag ≡ Some flag)
     text_is =
         text_held groups (pi_of k) (pty_of k) (tp_of k) headers-said flag (text_of k)
         (length_part k 12 64 long (omega arith)) texts-said text-came

@@ -2,7 +2,7 @@
 -- `mark_of`; `encode` answers `encode_of` and leaves `out_of` in its buffer; a receiver's `step` is `step_of`; a group that is
 -- taken into the record makes it `updated_of`. `Bytes sheet` says that each is below 256, as in a slice of bytes.
 use Rattle.std.specs.Prelude.{ℕ, ◌+◌, ◌*◌, ◌/◌, ◌≤◌, ◌<◌, ◌≡◌, ◌↔◌, List, [], ◌∷◌, true, cond, length, take, drop, replicate}
-use Rattle.std.specs.Prelude.{Ok}
+use Rattle.std.specs.Prelude.{Some, Ok}
 use Rattle.bits.specs.Bytes.{bit_at, Bytes}
 use Rattle.blocks.specs.Damage.{block_bits, Damage}
 use Rattle.groups.specs.declared.Group.{Group}
@@ -10,7 +10,6 @@ use Rattle.receiver.specs.declared.Receiver.{Receiver}
 use Rattle.receiver.specs.Answers.{brings_group}
 use Rattle.receiver.specs.Machine.{step_of, fresh_of as fresh_receiver}
 use Rattle.history.specs.Streams.{bits_from}
-use Rattle.station.specs.declared.HeldPi.TheVariants.{Pi}
 use Rattle.station.specs.declared.Record.{Record}
 use Rattle.station.specs.Record.{fresh_of as fresh_record}
 use Rattle.station.specs.Update.{updated_all}
@@ -74,13 +73,13 @@ text_of k = take text_size (drop text_place k)
 
 -- a record holds the key's PI, PTY, TP, the whole name and, if wanted, the whole text, each pair of them seen
 pub record HoldsKey (k : List ℕ) (station : Record) : Type 0 where
-  pub pi : station.pi ≡ Pi (pi_of k)
+  pub pi : station.pi ≡ Some (pi_of k)
   pub pty : station.pty ≡ pty_of k
   pub tp : station.tp ≡ tp_of k
   pub name : station.name.characters ≡ name_of k
   pub name_seen : station.name.seen ≡ replicate name_pairs true
-  pub text : wanted_of k ≡ true → station.text.characters ≡ text_of k
-  pub text_seen : wanted_of k ≡ true → station.text.seen ≡ replicate text_pairs true
+  pub text : wanted_of k ≡ true → station.text.pairs.characters ≡ text_of k
+  pub text_seen : wanted_of k ≡ true → station.text.pairs.seen ≡ replicate text_pairs true
 
 -- A passed submission, heard from its first bit to its last, leaves a record that holds the key.
 abbrev pub RecordHoldsKey : Type 0

@@ -1,5 +1,5 @@
 -- The lines marked P in the rules, as one list; the one claim is that all of them hold.
-use Rattle.std.specs.Prelude.{ℕ, ◌+◌, ◌*◌, ◌^◌, ◌<◌, ◌≡◌, List, [], ◌∷◌, ◌++◌, true, false}
+use Rattle.std.specs.Prelude.{ℕ, ◌+◌, ◌*◌, ◌^◌, ◌<◌, ◌≡◌, List, [], ◌∷◌, ◌++◌, true, false, Some, Ok}
 use Rattle.std.specs.Int.Bits.{bit_xor}
 use Rattle.bits.specs.Bytes.{bytes_of}
 use Rattle.blocks.specs.Block.{check_of, Valid}
@@ -13,10 +13,7 @@ use Rattle.clock.specs.Calendar.{dated, date_of}
 use Rattle.clock.specs.Local.{local_date_of}
 use Rattle.clock.specs.declared.Clock.{Clock}
 use Rattle.clock.specs.declared.DateTime.{DateTime}
-use Rattle.clock.specs.declared.Held.TheVariants.{At}
-use Rattle.clock.specs.declared.Local.TheVariants.{Date}
 use Rattle.frequencies.specs.Frequency.{frequency_of, frequency_number}
-use Rattle.frequencies.specs.declared.FrequencyAnswer.TheVariants.{Khz}
 
 -- each statement of a list holds
 abbrev pub AllHold : List (Type 0) → Type 0
@@ -64,12 +61,12 @@ evening_local = record { year = 1982; month = 9; day = 6; weekday = 1; hour = 18
 -- day 15,079 is 1900-03-01; 88,127 is 2100-02-28
 abbrev pub clock_lines : List (Type 0)
 clock_lines =
-    (read_of 0x4001 0x6145 0x7EEA ≡ At evening) ∷ (local_date_of (At evening) ≡ Date evening_local)
+    (read_of 0x4001 0x6145 0x7EEA ≡ Some evening) ∷ (local_date_of (Some evening) ≡ Ok evening_local)
     ∷ (date_of (record { 0 = 15079 }) ≡ dated 1900 3 1) ∷ (date_of (record { 0 = 88127 }) ≡ dated 2100 2 28) ∷ []
 
 -- code 1: 87,600 kHz. Code 204: 107,900. Code 205: answer 11
 abbrev pub frequency_lines : List (Type 0)
-frequency_lines = (frequency_of 1 ≡ Khz 87600) ∷ (frequency_of 204 ≡ Khz 107900) ∷
+frequency_lines = (frequency_of 1 ≡ Ok 87600) ∷ (frequency_of 204 ≡ Ok 107900) ∷
     (frequency_number (frequency_of 205) ≡ 11) ∷ []
 
 -- the P lines

@@ -1,6 +1,6 @@
 -- Demand 2: what is written is read back the same, and what is read is written back the same: blocks, groups, the
 -- clock, frequencies, the receiver's state. And what the receiver and the record say is read off all that came so far.
-use Rattle.std.specs.Prelude.{ℕ, ◌^◌, ◌<◌, ◌≤◌, ◌≡◌, List, [], ◌∷◌, Bool, true, length, Ok}
+use Rattle.std.specs.Prelude.{ℕ, ◌^◌, ◌<◌, ◌≤◌, ◌≡◌, List, [], ◌∷◌, Bool, true, length, Some, Ok}
 use Rattle.bits.specs.Bytes.{Bytes, bytes_of}
 use Rattle.blocks.specs.Block.{Valid, write_of, found, read_of, judge_of}
 use Rattle.blocks.specs.declared.Kind.{Kind}
@@ -10,13 +10,9 @@ use Rattle.groups.specs.Header.{third_kind, expected_of}
 use Rattle.groups.specs.Written.{group_size, blocks_of, four_blocks, group_bytes, block_in, word_in, group_in}
 use Rattle.groups.specs.declared.Group.{Group}
 use Rattle.frequencies.specs.Frequency.{frequency_of, code_of}
-use Rattle.frequencies.specs.declared.FrequencyAnswer.TheVariants.{Khz}
-use Rattle.frequencies.specs.declared.CodeAnswer.TheVariants.{Code}
 use Rattle.clock.specs.Words as clock
 use Rattle.clock.specs.Words.{Is4A, tp_in, pty_in, plain_of, plain_word2, plain_word4}
 use Rattle.clock.specs.declared.Clock.{Clock}
-use Rattle.clock.specs.declared.Held.TheVariants.{At}
-use Rattle.clock.specs.declared.Written.TheVariants.{Words}
 use Rattle.receiver.specs.Machine as receiver
 use Rattle.receiver.specs.Machine.{step_of, fed_of}
 use Rattle.saving.specs.Saving.{state_length, buffer_of, restore_of}
@@ -73,19 +69,20 @@ pub record BytesBack : Type 0 where
 -- is read is written back the same, but for the bits that are not read (4-2 of word 2) and the sign of offset 0
 pub record ClockBack : Type 0 where
   pub read-write : (pi : ℕ) (tp : Bool) (pty : ℕ) (c : Clock) (word1 word2 word3 word4 : ℕ)
-      → clock.write_of pi tp pty c ≡ Words word1 word2 word3 word4 → clock.read_of word2 word3 word4 ≡ At (plain_of c)
+      → clock.write_of pi tp pty c ≡ Ok (word1 ∷ word2 ∷ word3 ∷ word4 ∷ [])
+      → clock.read_of word2 word3 word4 ≡ Some (plain_of c)
   pub same : (c : Clock) → (c.negative ≡ true → 1 ≤ c.half) → plain_of c ≡ c
   pub head : (pi : ℕ) (tp : Bool) (pty : ℕ) (c : Clock) (word1 word2 word3 word4 : ℕ)
-      → clock.write_of pi tp pty c ≡ Words word1 word2 word3 word4
+      → clock.write_of pi tp pty c ≡ Ok (word1 ∷ word2 ∷ word3 ∷ word4 ∷ [])
       → (word1 ≡ pi) × Is4A word2 × (tp_in word2 ≡ tp) × (pty_in word2 ≡ pty)
   pub write_read : (word2 word3 word4 : ℕ) → Word word2 → Word word3 → Word word4 → (pi : ℕ) (c : Clock)
-      → Is4A word2 → clock.read_of word2 word3 word4 ≡ At c
-      → clock.write_of pi (tp_in word2) (pty_in word2) c ≡ Words pi (plain_word2 word2) word3 (plain_word4 word4)
+      → Is4A word2 → clock.read_of word2 word3 word4 ≡ Some c
+      → clock.write_of pi (tp_in word2) (pty_in word2) c ≡ Ok (pi ∷ plain_word2 word2 ∷ word3 ∷ plain_word4 word4 ∷ [])
 
 -- the code of a code's frequency is the code, and the frequency of a frequency's code is the frequency
 pub record FrequenciesBack : Type 0 where
-  pub code_of-frequency : (c khz : ℕ) → frequency_of c ≡ Khz khz → code_of khz ≡ Code c
-  pub frequency_of-code : (c khz : ℕ) → code_of khz ≡ Code c → frequency_of c ≡ Khz khz
+  pub code_of-frequency : (c khz : ℕ) → frequency_of c ≡ Ok khz → code_of khz ≡ Ok c
+  pub frequency_of-code : (c khz : ℕ) → code_of khz ≡ Ok c → frequency_of c ≡ Ok khz
 
 -- ---- all that came so far
 

@@ -1,7 +1,7 @@
 -- Demand 1: each refusal is given with its number exactly if the table says so, and leaves what was lent as it was. A
 -- claim for each row of the table, 1 to 12, for every function that gives its number. Sheets, submissions and the bits
 -- of a block are only looked at, and cannot change; lent or handed back are the buffers and the receiver's state.
-use Rattle.std.specs.Prelude.{ℕ, ◌+◌, ◌^◌, ◌<◌, ◌≤◌, ◌≡◌, List, Bool, ◌↔◌, ◌⊎◌, length}
+use Rattle.std.specs.Prelude.{ℕ, ◌+◌, ◌^◌, ◌<◌, ◌≤◌, ◌≡◌, List, Bool, ◌↔◌, ◌⊎◌, length, Option}
 use Rattle.blocks.specs.Block.{read_of, judge_of}
 use Rattle.blocks.specs.Answers.{found_number, judged_number}
 use Rattle.blocks.specs.declared.Kind.{Kind}
@@ -10,7 +10,6 @@ use Rattle.frequencies.specs.Frequency.{first_code, last_code, khz_of, frequency
 use Rattle.clock.specs.Words.{NoWords, write_of, number_of_written}
 use Rattle.clock.specs.Local.{NoDate, local_date_of, number_of_local}
 use Rattle.clock.specs.declared.Clock.{Clock}
-use Rattle.clock.specs.declared.Held.{Held}
 use Rattle.receiver.specs.Machine.{step_of}
 use Rattle.receiver.specs.Feeding.{advance_of}
 use Rattle.receiver.specs.Answers.{answer_number}
@@ -124,7 +123,7 @@ pub record RowNine : Type 0 where
 pub record RowTen : Type 0 where
   pub write : (pi : ℕ) (tp : Bool) (pty : ℕ) (clock : Clock)
       → (number_of_written (write_of pi tp pty clock) ≡ 10) ↔ NoWords pty clock
-  pub local_date : (held : Held) → (number_of_local (local_date_of held) ≡ 10) ↔ NoDate held
+  pub local_date : (held : Option Clock) → (number_of_local (local_date_of held) ≡ 10) ↔ NoDate held
   pub record_date : (station : Record)
       → (number_of_local (local_date_of (held_clock_of station)) ≡ 10) ↔ NoDate (held_clock_of station)
 

@@ -6,23 +6,22 @@ use mathlib.Core.Path.{◌≡◌, refl, sym, ap, ◌∙◌}
 use native.Mathlib.Omega.{arith}
 use borrow.Author.Tests.{ltb-true, ltb-false, leb-true, lt-ltb, le-ltb}
 use lib.Dec.{leb, ltb}
-use Rattle.frequencies.specs.Frequency.{refused, first_code, last_code, khz_of}
+use Rattle.std.specs.Prelude.{Result, Ok, Err}
+use Rattle.frequencies.specs.Frequency.{refused, first_code, last_code, khz_of, frequency_refusal, code_refusal}
 use Rattle.frequencies.specs.Frequency.{no_frequency, frequency_of, frequency_number, frequency_value}
 use Rattle.frequencies.specs.Frequency.{steps_above, below_codes, above_codes, between_codes, no_code}
 use Rattle.frequencies.specs.Frequency.{code_of, code_number, code_value}
 use Rattle.frequencies.specs.AfList.{none_expected, last_count, is_count, af_code}
 use Rattle.frequencies.proofs.AfTests.{true_by, false_by, and_left, or-none, or_some, cond_map}
-use Rattle.frequencies.specs.declared.FrequencyAnswer.{FrequencyAnswer}
-use Rattle.frequencies.specs.declared.FrequencyAnswer.TheVariants.{Khz, NoFrequency}
-use Rattle.frequencies.specs.declared.CodeAnswer.{CodeAnswer}
-use Rattle.frequencies.specs.declared.CodeAnswer.TheVariants.{Code, NoCode}
+use Rattle.frequencies.specs.declared.NoFrequency.{NoFrequency}
+use Rattle.frequencies.specs.declared.NoCode.{NoCode}
 use Rattle.frequencies.specs.declared.Meaning.{Meaning}
 use Rattle.frequencies.specs.declared.Meaning.TheVariants.{Count, Frequency, NoChange}
 
 -- the frequency of a code
 
 -- the code's kHz where the code has a frequency
-pub frequency-given : (c : ℕ) → 1 ≤ c → c ≤ 204 → frequency_of c ≡ Khz (87500 + 100 * c)
+pub frequency-given : (c : ℕ) → 1 ≤ c → c ≤ 204 → frequency_of c ≡ Ok (87500 + 100 * c)
 unfolding frequency_of
 frequency-given c lo hi = simp (le-ltb c first_code (omega arith), le-ltb last_code c (omega arith))
 
@@ -35,20 +34,20 @@ module _ (c : ℕ) where
       there :
           (t : Bool) →
           no_frequency c ≡ t →
-          frequency_number (cond t NoFrequency (Khz (khz_of c))) ≡ 11 →
+          frequency_number (cond t (Err frequency_refusal) (Ok (khz_of c))) ≡ 11 →
           (c < 1) ⊎ (204 < c)
       there true e n =
           elim (or_some (ltb c first_code) (ltb last_code c) e)
           [ inl h ↦ inl (ltb-true c first_code h) | inr h ↦ inr (ltb-true last_code c h) ]
       there false e n = absurd (omega arith)
 
-      back : (c < 1) ⊎ (204 < c) → frequency_number (cond (no_frequency c) NoFrequency (Khz (khz_of c))) ≡ 11
+      back : (c < 1) ⊎ (204 < c) → frequency_number (cond (no_frequency c) (Err frequency_refusal) (Ok (khz_of c))) ≡ 11
       back (inl h) = simp (lt-ltb c first_code (omega arith))
       back (inr h) = simp (lt-ltb last_code c (omega arith), or-true)
 
   -- the equation says the number and the value
   pub frequency_promised :
-      (r : FrequencyAnswer) →
+      (r : Result ℕ NoFrequency) →
       r ≡ frequency_of c →
       (r ≡ frequency_of c)
       × (frequency_number r ≡ cond (no_frequency c) refused 0)
@@ -56,15 +55,15 @@ module _ (c : ℕ) where
   unfolding frequency_of
   frequency_promised r e = (
     e,
-    ap frequency_number e ∙ cond_map frequency_number (no_frequency c) NoFrequency (Khz (khz_of c)),
-    ap frequency_value e ∙ cond_map frequency_value (no_frequency c) NoFrequency (Khz (khz_of c)),
+    ap frequency_number e ∙ cond_map frequency_number (no_frequency c) (Err frequency_refusal) (Ok (khz_of c)),
+    ap frequency_value e ∙ cond_map frequency_value (no_frequency c) (Err frequency_refusal) (Ok (khz_of c)),
   )
 
 -- the frequency that a meaning gives
-abbrev pub answered : Meaning → FrequencyAnswer
-answered (Count n) = NoFrequency
-answered (Frequency k) = Khz k
-answered NoChange = NoFrequency
+abbrev pub answered : Meaning → Result ℕ NoFrequency
+answered (Count n) = Err frequency_refusal
+answered (Frequency k) = Ok k
+answered NoChange = Err frequency_refusal
 
 -- a code has the frequency that it means to a list
 pub frequency_meant : (c : ℕ) → answered (af_code c) ≡ frequency_of c
@@ -79,7 +78,7 @@ frequency_meant c = chosen (c - none_expected) (khz_of c) (is_count c) (no_frequ
     chosen :
         (n k : ℕ) (a b : Bool) →
         (a ≡ true → b ≡ true) →
-        answered (cond a (Count n) (cond b NoChange (Frequency k))) ≡ cond b NoFrequency (Khz k)
+        answered (cond a (Count n) (cond b NoChange (Frequency k))) ≡ cond b (Err frequency_refusal) (Ok k)
     chosen n k true true h = refl
     chosen n k true false h = absurd (false≢true (h refl))
     chosen n k false true h = refl
@@ -103,20 +102,20 @@ code-there k e =
 
 module _ (k : ℕ) where
   -- kHz below the first code's, above the last code's or between two: refused
-  pub code_below : k < 87600 → code_of k ≡ NoCode
+  pub code_below : k < 87600 → code_of k ≡ Err code_refusal
   unfolding code_of
   code_below h = simp (true_by (below_codes k) (λ e. omega (arith, ltb-false)))
 
-  pub code_above : 107900 < k → code_of k ≡ NoCode
+  pub code_above : 107900 < k → code_of k ≡ Err code_refusal
   unfolding code_of
   code_above h = simp (true_by (above_codes k) (λ e. omega (arith, ltb-false)), or-true)
 
-  pub code_between : 0 < (k - 87500) % 100 → code_of k ≡ NoCode
+  pub code_between : 0 < (k - 87500) % 100 → code_of k ≡ Err code_refusal
   unfolding code_of
   code_between h = simp (true_by (between_codes k) (λ e. omega (arith, ltb-false)), or-true)
 
   -- any others: as many steps of 100 kHz above 87,500
-  pub code_steps : 87600 ≤ k → k ≤ 107900 → (k - 87500) % 100 ≡ 0 → code_of k ≡ Code ((k - 87500) / 100)
+  pub code_steps : 87600 ≤ k → k ≤ 107900 → (k - 87500) % 100 ≡ 0 → code_of k ≡ Ok ((k - 87500) / 100)
   unfolding code_of
   code_steps lo hi even =
       simp (
@@ -126,21 +125,21 @@ module _ (k : ℕ) where
       )
 
 -- the code whose kHz these are
-pub code-given : (c : ℕ) → 1 ≤ c → c ≤ 204 → code_of (87500 + 100 * c) ≡ Code c
+pub code-given : (c : ℕ) → 1 ≤ c → c ≤ 204 → code_of (87500 + 100 * c) ≡ Ok c
 code-given c lo hi =
     let steps : (87500 + 100 * c - 87500) / 100 ≡ c = omega arith in
     rw steps at (code_steps (87500 + 100 * c) (omega arith) (omega arith) (omega arith))
 
 module _ (k : ℕ) where
   -- a code that is answered has these kHz, and is one of 1 to 204
-  pub code_has : (c : ℕ) → code_of k ≡ Code c → (1 ≤ c) × (c ≤ 204) × (87500 + 100 * c ≡ k)
+  pub code_has : (c : ℕ) → code_of k ≡ Ok c → (1 ≤ c) × (c ≤ 204) × (87500 + 100 * c ≡ k)
   unfolding code_of
   code_has c = from (no_code k) refl
     where
       from :
           (t : Bool) →
           no_code k ≡ t →
-          cond t NoCode (Code (steps_above k)) ≡ Code c →
+          cond t (Err code_refusal) (Ok (steps_above k)) ≡ Ok c →
           (1 ≤ c) × (c ≤ 204) × (87500 + 100 * c ≡ k)
       from true e given = absurd (let z : ◌≡◌ {A = ℕ} 0 1 = cc in omega arith)
       from false e given =
@@ -163,7 +162,7 @@ module _ (k : ℕ) where
           (t : Bool) →
           no_code k ≡ t →
           ((c : ℕ) → 1 ≤ c → c ≤ 204 → 87500 + 100 * c ≡ k → ⊥) →
-          code_number (cond t NoCode (Code (steps_above k))) ≡ 11
+          code_number (cond t (Err code_refusal) (Ok (steps_above k))) ≡ 11
       back true e none = refl
       back false e none =
           let there = code-there k e in
@@ -171,24 +170,24 @@ module _ (k : ℕ) where
 
   -- the equation says the number and the value
   pub code_promised :
-      (r : CodeAnswer) →
+      (r : Result ℕ NoCode) →
       r ≡ code_of k →
       (r ≡ code_of k) × (code_number r ≡ cond (no_code k) refused 0) × (code_value r ≡ cond (no_code k) 0 (steps_above k))
   unfolding code_of
   code_promised r e = (
     e,
-    ap code_number e ∙ cond_map code_number (no_code k) NoCode (Code (steps_above k)),
-    ap code_value e ∙ cond_map code_value (no_code k) NoCode (Code (steps_above k)),
+    ap code_number e ∙ cond_map code_number (no_code k) (Err code_refusal) (Ok (steps_above k)),
+    ap code_value e ∙ cond_map code_value (no_code k) (Err code_refusal) (Ok (steps_above k)),
   )
 
 -- inverse to each other
 
 -- the code of a code's frequency is the code
-pub code_of-frequency : (c k : ℕ) → frequency_of c ≡ Khz k → code_of k ≡ Code c
+pub code_of-frequency : (c k : ℕ) → frequency_of c ≡ Ok k → code_of k ≡ Ok c
 unfolding frequency_of
 code_of-frequency c k = from (no_frequency c) refl
   where
-    from : (t : Bool) → no_frequency c ≡ t → cond t NoFrequency (Khz (khz_of c)) ≡ Khz k → code_of k ≡ Code c
+    from : (t : Bool) → no_frequency c ≡ t → cond t (Err frequency_refusal) (Ok (khz_of c)) ≡ Ok k → code_of k ≡ Ok c
     from true e given = absurd (let z : ◌≡◌ {A = ℕ} 0 1 = cc in omega arith)
     from false e given =
         let khz : khz_of c ≡ k = cc in
@@ -196,7 +195,7 @@ code_of-frequency c k = from (no_frequency c) refl
         rw khz at (code-given c (ltb-false c first_code inside.0) (ltb-false last_code c inside.1))
 
 -- the frequency of a frequency's code is the frequency
-pub frequency_of-code : (c k : ℕ) → code_of k ≡ Code c → frequency_of c ≡ Khz k
+pub frequency_of-code : (c k : ℕ) → code_of k ≡ Ok c → frequency_of c ≡ Ok k
 frequency_of-code c k given =
     let has = code_has k c given in
-    frequency-given c has.0 has.1 ∙ ap Khz has.2
+    frequency-given c has.0 has.1 ∙ ap Ok has.2

@@ -1,9 +1,7 @@
 -- AF codes and their frequencies: which code stands for which kHz, both ways, and what is refused.
-use Rattle.std.specs.Prelude.{ℕ, ◌+◌, ◌-◌, ◌*◌, ◌/◌, ◌%◌, Bool, cond, ◌||◌, ltb}
-use Rattle.frequencies.specs.declared.FrequencyAnswer.{FrequencyAnswer}
-use Rattle.frequencies.specs.declared.FrequencyAnswer.TheVariants.{Khz, NoFrequency}
-use Rattle.frequencies.specs.declared.CodeAnswer.{CodeAnswer}
-use Rattle.frequencies.specs.declared.CodeAnswer.TheVariants.{Code, NoCode}
+use Rattle.std.specs.Prelude.{ℕ, ◌+◌, ◌-◌, ◌*◌, ◌/◌, ◌%◌, Bool, cond, ◌||◌, ltb, Result, Ok, Err}
+use Rattle.frequencies.specs.declared.NoFrequency.{NoFrequency}
+use Rattle.frequencies.specs.declared.NoCode.{NoCode}
 
 -- number 11: frequency asked for a code outside 1 to 204, or code for kHz that none has
 abbrev pub refused : ℕ
@@ -32,9 +30,16 @@ khz_of code = base + step * code
 abbrev pub no_frequency : ℕ → Bool
 no_frequency code = ltb code first_code || ltb last_code code
 
+-- the refusals of both, which say no more than their number
+abbrev pub frequency_refusal : NoFrequency
+frequency_refusal = record {}
+
+abbrev pub code_refusal : NoCode
+code_refusal = record {}
+
 -- the frequency of a code, or refusal 11
-unfoldable pub frequency_of : ℕ → FrequencyAnswer
-frequency_of code = cond (no_frequency code) NoFrequency (Khz (khz_of code))
+unfoldable pub frequency_of : ℕ → Result ℕ NoFrequency
+frequency_of code = cond (no_frequency code) (Err frequency_refusal) (Ok (khz_of code))
 
 -- how many steps of 100 kHz a frequency lies above 87,500
 abbrev pub steps_above : ℕ → ℕ
@@ -57,23 +62,23 @@ abbrev pub no_code : ℕ → Bool
 no_code khz = below_codes khz || above_codes khz || between_codes khz
 
 -- the code of a frequency, or refusal 11
-unfoldable pub code_of : ℕ → CodeAnswer
-code_of khz = cond (no_code khz) NoCode (Code (steps_above khz))
+unfoldable pub code_of : ℕ → Result ℕ NoCode
+code_of khz = cond (no_code khz) (Err code_refusal) (Ok (steps_above khz))
 
 -- the paper's number of each answer
-abbrev pub frequency_number : FrequencyAnswer → ℕ
-frequency_number (Khz k) = 0
-frequency_number NoFrequency = refused
+abbrev pub frequency_number : Result ℕ NoFrequency → ℕ
+frequency_number (Ok k) = 0
+frequency_number (Err e) = refused
 
-abbrev pub code_number : CodeAnswer → ℕ
-code_number (Code c) = 0
-code_number NoCode = refused
+abbrev pub code_number : Result ℕ NoCode → ℕ
+code_number (Ok c) = 0
+code_number (Err e) = refused
 
 -- the value of each answer: the kHz, the code; 0 where refused
-abbrev pub frequency_value : FrequencyAnswer → ℕ
-frequency_value (Khz k) = k
-frequency_value NoFrequency = 0
+abbrev pub frequency_value : Result ℕ NoFrequency → ℕ
+frequency_value (Ok k) = k
+frequency_value (Err e) = 0
 
-abbrev pub code_value : CodeAnswer → ℕ
-code_value (Code c) = c
-code_value NoCode = 0
+abbrev pub code_value : Result ℕ NoCode → ℕ
+code_value (Ok c) = c
+code_value (Err e) = 0

@@ -2,11 +2,11 @@
 // Refused, as answer 11: the frequency of a code that has none, and the code of a frequency that none has.
 #![tactic(auto)]
 
-ghost use Rattle.std.specs.Prelude.{◌≡◌, cond, ◌≤◌, take};
+ghost use Rattle.std.specs.Prelude.{◌≡◌, cond};
 ghost use Rattle.frequencies.specs.Frequency.{refused, khz_of, no_frequency, frequency_of};
 ghost use Rattle.frequencies.specs.Frequency.{frequency_number, frequency_value};
 ghost use Rattle.frequencies.specs.Frequency.{no_code, steps_above, code_of, code_number, code_value};
-ghost use Rattle.frequencies.specs.AfList.{af_code, af_word, is_in, slots, expecting, appended_of, told_of};
+ghost use Rattle.frequencies.specs.AfList.{af_code, af_word, expecting, appended_of, told_of};
 ghost use Rattle.frequencies.specs.AfList.{empty_of, taken_of, held_of, expected_of, at_of};
 
 // The codes of frequencies: each stands for BASE + STEP times itself, in kHz.
@@ -28,19 +28,13 @@ const LAST_COUNT: u8 = 249;
 // As many frequencies as the highest count.
 const SLOTS: usize = 25;
 
-// The frequency of a code, in kHz.
-#[derive(Clone, Copy)]
-pub enum FrequencyAnswer {
-    Khz(u32),
-    NoFrequency,
-}
+// Refused, as answer 11: a code that has no frequency.
+#[derive(Clone, Copy, PartialEq, Eq, Debug)]
+pub struct NoFrequency;
 
-// The code of a frequency.
-#[derive(Clone, Copy)]
-pub enum CodeAnswer {
-    Code(u8),
-    NoCode,
-}
+// Refused, as answer 11: a frequency that has no code.
+#[derive(Clone, Copy, PartialEq, Eq, Debug)]
+pub struct NoCode;
 
 // What a code tells a list.
 #[derive(Clone, Copy)]
@@ -59,7 +53,8 @@ pub struct WordMeaning {
     pub second: Meaning,
 }
 
-// The frequencies held, in order of arrival, with 0 in every slot that is not held, and how many are expected.
+// The frequencies held, in order of arrival, with 0 in every slot that is not held, and how many are expected. The
+// slots are fixed, with the number held beside them, since a list is a value that takes no memory of its own.
 #[derive(Clone, Copy)]
 pub struct AfList {
     pub khz: [u32; SLOTS],
@@ -74,7 +69,7 @@ fn af_code(code: u8) -> Meaning
     match code {
         FIRST_COUNT..=LAST_COUNT => Meaning::Count(code - NONE_EXPECTED),
         NONE_EXPECTED => Meaning::Count(0),
-        FIRST_CODE..=LAST_CODE => Meaning::Frequency(BASE + STEP * (code as u32)),
+        FIRST_CODE..=LAST_CODE => Meaning::Frequency(BASE + STEP * u32::from(code)),
         _ => Meaning::NoChange,
     }
 }
@@ -89,40 +84,31 @@ fn af_word(word: u16) -> WordMeaning
 }
 
 // The frequency of a code, or refusal 11: the one that it means to a list.
-pub fn frequency(code: u8) -> FrequencyAnswer
+pub fn frequency(code: u8) -> Result<u32, NoFrequency>
     ensures { (result ≡ frequency_of code)
         × (frequency_number result ≡ cond (no_frequency code) refused 0)
         × (frequency_value result ≡ cond (no_frequency code) 0 (khz_of code)) }
 {
-    let meaning = af_code(code);
-    match meaning {
-        Meaning::Count(_) => FrequencyAnswer::NoFrequency,
-        Meaning::Frequency(khz) => FrequencyAnswer::Khz(khz),
-        Meaning::NoChange => FrequencyAnswer::NoFrequency,
+    match af_code(code) {
+        Meaning::Frequency(khz) => Ok(khz),
+        Meaning::Count(_) | Meaning::NoChange => Err(NoFrequency),
     }
 }
 
 // The code of a frequency, or refusal 11.
-pub fn code(khz: u32) -> CodeAnswer
+pub fn code(khz: u32) -> Result<u8, NoCode>
     ensures { (result ≡ code_of khz)
         × (code_number result ≡ cond (no_code khz) refused 0)
         × (code_value result ≡ cond (no_code khz) 0 (steps_above khz)) }
 {
-    if khz < BASE {
-        return CodeAnswer::NoCode;
-    }
-    let above = khz - BASE;
+    let above = khz.checked_sub(BASE).ok_or(NoCode)?;
     if above % STEP != 0 {
-        return CodeAnswer::NoCode;
+        return Err(NoCode);
     }
-    let steps = above / STEP;
-    if steps < (FIRST_CODE as u32) {
-        return CodeAnswer::NoCode;
+    match u8::try_from(above / STEP) {
+        Ok(code @ FIRST_CODE..=LAST_CODE) => Ok(code),
+        _ => Err(NoCode),
     }
-    if (LAST_CODE as u32) < steps {
-        return CodeAnswer::NoCode;
-    }
-    CodeAnswer::Code(steps as u8)
 }
 
 // A list that holds none and expects so many.
@@ -136,40 +122,17 @@ fn expecting_only(count: u8) -> AfList
     }
 }
 
-// Whether a frequency stands in the first slots, as many as are held.
-fn holds(stored: [u32; SLOTS], held: usize, khz: u32) -> bool
-    requires { held ≤ slots }
-    ensures { result ≡ is_in khz (take held stored) }
-{
-    let mut i = 0;
-    while i < held {
-        if stored[i] == khz {
-            return true;
-        }
-        i += 1;
-    }
-    false
-}
-
 // The list with a frequency more, if it is not in the list and fewer are held than expected.
 fn appended(list: AfList, khz: u32) -> AfList
     ensures { result ≡ appended_of list khz }
 {
-    let held = list.held;
-    let at = held as usize;
-    if list.expected <= held {
-        return list;
-    }
-    if SLOTS <= at {
-        return list;
-    }
-    let stored = list.khz;
-    if holds(stored, at, khz) {
+    let at = usize::from(list.held);
+    if list.expected <= list.held || SLOTS <= at || list.khz[..at].contains(&khz) {
         return list;
     }
     let mut longer = list;
     longer.khz[at] = khz;
-    longer.held = held + 1;
+    longer.held += 1;
     longer
 }
 
@@ -196,9 +159,7 @@ pub fn taken(list: AfList, word: u16) -> AfList
     ensures { result ≡ taken_of list word }
 {
     let meanings = af_word(word);
-    let first = meanings.first;
-    let second = meanings.second;
-    told(told(list, first), second)
+    told(told(list, meanings.first), meanings.second)
 }
 
 // How many are held.
@@ -219,11 +180,8 @@ pub fn expected(list: AfList) -> u8
 pub fn at(list: AfList, i: usize) -> u32
     ensures { result ≡ at_of list i }
 {
-    if SLOTS <= i {
-        return 0;
+    match list.khz.get(i) {
+        Some(khz) if i < usize::from(list.held) => *khz,
+        _ => 0,
     }
-    if (list.held as usize) <= i {
-        return 0;
-    }
-    list.khz[i]
 }

@@ -7,22 +7,18 @@ use mathlib.Core.List.{List, [], ◌∷◌, ◌++◌, map, append-nil, append_as
 use mathlib.Core.Logic.{◌⊎◌, inl, inr}
 use native.Mathlib.Decide.{ℕ_discrete}
 use native.Mathlib.Omega.{arith}
+use Rattle.std.specs.Prelude.{Option, Some, None}
 use Rattle.frequencies.specs.declared.AfList.{AfList}
 use Rattle.frequencies.specs.AfList.{taken_of}
 use Rattle.frequencies.specs.AfHistory.{af_after, taken_all}
 use Rattle.frequencies.proofs.AfLaws.{words_taken, word_more}
-use Rattle.clock.specs.declared.Held.{Held}
-use Rattle.clock.specs.declared.Held.TheVariants.{At, Nothing}
+use Rattle.clock.specs.declared.Clock.{Clock}
 use Rattle.clock.specs.Range.{in_range}
 use Rattle.clock.specs.Words.{clock_in, read_of}
 use Rattle.groups.specs.declared.Group.{Group}
 use Rattle.groups.specs.declared.fields.Content.{Content}
 use Rattle.groups.specs.declared.fields.Content.TheVariants.{Name0A, Name0B, Text2A, Text2B, Clock4A, Other}
 use Rattle.groups.specs.Group.{word_of, counts_of}
-use Rattle.station.specs.declared.HeldPi.{HeldPi}
-use Rattle.station.specs.declared.HeldPi.TheVariants.{Pi, NoPi}
-use Rattle.station.specs.declared.HeldFlag.{HeldFlag}
-use Rattle.station.specs.declared.HeldFlag.TheVariants.{Flag, NoFlag}
 use Rattle.station.specs.declared.Text.{Text}
 use Rattle.station.specs.declared.Record.{Record}
 use Rattle.station.specs.Record.{space, name_size, name_pairs, text_size, text_pairs, no_name, no_text}
@@ -60,23 +56,23 @@ af_kept list (Text2B flag a pair) e = refl
 af_kept list Clock4A e = refl
 af_kept list Other e = refl
 
-module _ (held : Held) (word2 word3 word4 : ℕ) where
+module _ (held : Option Clock) (word2 word3 word4 : ℕ) where
   clock-read :
       clock_or (read_of word2 word3 word4) held
-      ≡ cond (in_range (clock_in word2 word3 word4)) (At (clock_in word2 word3 word4)) held
+      ≡ cond (in_range (clock_in word2 word3 word4)) (Some (clock_in word2 word3 word4)) held
   unfolding clock_or read_of
   clock-read = by_test (in_range (clock_in word2 word3 word4)) refl
     where
       by_test :
           (t : Bool) → in_range (clock_in word2 word3 word4) ≡ t →
           clock_or (read_of word2 word3 word4) held
-          ≡ cond (in_range (clock_in word2 word3 word4)) (At (clock_in word2 word3 word4)) held
+          ≡ cond (in_range (clock_in word2 word3 word4)) (Some (clock_in word2 word3 word4)) held
       by_test true e = rw e
       by_test false e = rw e
 
   clock-taken : (k : Content) →
       clock_after held k word2 word3 word4
-      ≡ cond (is_clock k && in_range (clock_in word2 word3 word4)) (At (clock_in word2 word3 word4)) held
+      ≡ cond (is_clock k && in_range (clock_in word2 word3 word4)) (Some (clock_in word2 word3 word4)) held
   unfolding clock_after is_clock
   clock-taken (Name0A switches a af pair) = refl
   clock-taken (Name0B switches a pair) = refl
@@ -99,7 +95,7 @@ flags_differ false false e same = true≢false e
 -- ---- one group more, part by part
 
 -- the text of some text groups, with a flag
-abbrev text_parts : List Group → HeldFlag → Text
+abbrev text_parts : List Group → Option Bool → Text
 text_parts gs flag = text_said (text_character gs) (text_seen gs) flag
 
 module _ (g : Group) where
@@ -120,14 +116,13 @@ module _ (g : Group) where
           cond (has_name p (carried_in g)) true (name_seen gs p) ≡ name_seen (gs ++ g ∷ []) p
       mark p h = sym (some_more (λ x. has_name p (carried_in x)) g gs)
 
-  stored_more : (gs : List Group) (flag : HeldFlag) (text : Text) → is_text (carried_in g) ≡ true →
+  stored_more : (gs : List Group) (flag : Option Bool) (text : Text) → is_text (carried_in g) ≡ true →
       text_for text (flag_of (carried_in g)) ≡ text_parts gs flag →
       text_after text (carried_in g) ≡ text_parts (gs ++ g ∷ []) flag
   stored_more gs flag text is left =
       text_taken (text_character gs) (text_seen gs) flag text (carried_in g) is left
       ∙ (λ i. record {
-        characters = listed_same text_size _ _ character i;
-        seen = listed_same text_pairs _ _ mark i;
+        pairs = record { characters = listed_same text_size _ _ character i; seen = listed_same text_pairs _ _ mark i };
         flag = flag;
       })
     where
@@ -145,10 +140,10 @@ module _ (g : Group) where
   -- the text groups that the text is said of before this group is stored
   record Begun (gs : List Group) : Type 0 where
     pub groups : List Group
-    pub cleared : text_for (text_over gs) (flag_of (carried_in g)) ≡ text_parts groups (Flag (flag_of (carried_in g)))
+    pub cleared : text_for (text_over gs) (flag_of (carried_in g)) ≡ text_parts groups (Some (flag_of (carried_in g)))
     pub more : since_flag (gs ++ g ∷ []) ≡ groups ++ g ∷ []
 
-  no-parts : (flag : HeldFlag) → no_text flag ≡ text_parts [] flag
+  no-parts : (flag : Option Bool) → no_text flag ≡ text_parts [] flag
   unfolding listed latest those some
   no-parts flag = refl
 
@@ -173,11 +168,11 @@ module _ (g : Group) where
       abbrev old : Bool
       old = flag_of (carried_in end.last)
 
-      flag-held : (text_over gs).flag ≡ Flag old
+      flag-held : (text_over gs).flag ≡ Some old
       unfolding text_over
       flag-held =
           ap last_flag end.is
-          ∙ latest_more (λ x. Flag (flag_of (carried_in x))) end.last NoFlag end.before
+          ∙ latest_more (λ x. Some (flag_of (carried_in x))) end.last None end.before
 
       same-begun : beq old new ≡ true → Begun gs
       unfolding text_over
@@ -194,7 +189,7 @@ module _ (g : Group) where
           let number = flags_differ old new other in
           record {
             groups = [];
-            cleared = text_other (text_over gs) new old flag-held other ∙ no-parts (Flag new);
+            cleared = text_other (text_over gs) new old flag-held other ∙ no-parts (Some new);
             more = rw (groups-more, end.is) (since_other flag_number end.last g end.before number);
           }
 
@@ -212,8 +207,8 @@ module _ (g : Group) where
     text-group-more : text_after (text_over gs) (carried_in g) ≡ text_over (gs ++ g ∷ [])
     unfolding text_over
     text-group-more =
-        stored_more begun.groups (Flag (flag_of (carried_in g))) (text_over gs) is-text begun.cleared
-        ∙ sym (rw (begun.more, groups-more, latest_more (λ x. Flag (flag_of (carried_in x))) g NoFlag (text_groups gs)))
+        stored_more begun.groups (Some (flag_of (carried_in g))) (text_over gs) is-text begun.cleared
+        ∙ sym (rw (begun.more, groups-more, latest_more (λ x. Some (flag_of (carried_in x))) g None (text_groups gs)))
 
   text-more : (gs : List Group) → text_after (text_over gs) (carried_in g) ≡ text_over (gs ++ g ∷ [])
   unfolding text_over
@@ -243,9 +238,9 @@ module _ (g : Group) where
   clock-more gs =
       clock-taken (clock_over gs) (word_of g 1) (word_of g 2) (word_of g 3) (carried_in g)
       ∙ sym
-      (latest_those (λ x. At (clock_of x)) g Nothing (λ x. is_clock (carried_in x) && in_range (clock_of x)) gs)
+      (latest_those (λ x. Some (clock_of x)) g None (λ x. is_clock (carried_in x) && in_range (clock_of x)) gs)
 
-  filled_more : (pi : HeldPi) (gs : List Group) → filled_of (record_over pi gs) g ≡ record_over pi (gs ++ g ∷ [])
+  filled_more : (pi : Option ℕ) (gs : List Group) → filled_of (record_over pi gs) g ≡ record_over pi (gs ++ g ∷ [])
   unfolding filled_of record_over
   filled_more pi gs =
       λ i. record {
@@ -261,7 +256,7 @@ module _ (g : Group) where
 -- ---- the whole record
 
 -- no group says what the fresh record holds
-over_none : (pi : HeldPi) → fresh_with pi ≡ record_over pi []
+over_none : (pi : Option ℕ) → fresh_with pi ≡ record_over pi []
 unfolding record_over name_over text_over listed latest those some since_change af_words clock_over taken_all
 over_none pi =
     λ i. record {
@@ -269,12 +264,12 @@ over_none pi =
       pty = 0;
       tp = false;
       name = no_name;
-      text = no_text NoFlag;
+      text = no_text None;
       af = words_taken [] i;
-      clock = Nothing;
+      clock = None;
     }
 
-pi-over : (pi : HeldPi) (gs : List Group) → (record_over pi gs).pi ≡ pi
+pi-over : (pi : Option ℕ) (gs : List Group) → (record_over pi gs).pi ≡ pi
 unfolding record_over
 pi-over pi gs = refl
 
@@ -284,12 +279,12 @@ over gs = record_over (last_pi gs) (since_change pi_in gs)
 
 module _ (g : Group) (gs : List Group) where
   -- the record begins anew
-  anew : held_for (over gs) (pi_in g) ≡ fresh_with (Pi (pi_in g)) → since_change pi_in (gs ++ g ∷ []) ≡ g ∷ [] →
+  anew : held_for (over gs) (pi_in g) ≡ fresh_with (Some (pi_in g)) → since_change pi_in (gs ++ g ∷ []) ≡ g ∷ [] →
       filled_of (held_for (over gs) (pi_in g)) g ≡ over (gs ++ g ∷ [])
   anew fresh since =
-      ap (λ (r : Record). filled_of r g) (fresh ∙ over_none (Pi (pi_in g)))
-      ∙ filled_more g (Pi (pi_in g)) []
-      ∙ sym (rw (since, latest_more (λ x. Pi (pi_in x)) g NoPi gs))
+      ap (λ (r : Record). filled_of r g) (fresh ∙ over_none (Some (pi_in g)))
+      ∙ filled_more g (Some (pi_in g)) []
+      ∙ sym (rw (since, latest_more (λ x. Some (pi_in x)) g None gs))
 
   counted-first : gs ≡ [] → filled_of (held_for (over gs) (pi_in g)) g ≡ over (gs ++ g ∷ [])
   unfolding latest since_change each
@@ -297,11 +292,11 @@ module _ (g : Group) (gs : List Group) where
       anew (held_none (over gs) (pi_in g) (pi-over (last_pi gs) (since_change pi_in gs) ∙ ap last_pi e)) (rw e)
 
   module _ (end : Ended gs) where
-    pi-held : (over gs).pi ≡ Pi (pi_in end.last)
+    pi-held : (over gs).pi ≡ Some (pi_in end.last)
     pi-held =
         pi-over (last_pi gs) (since_change pi_in gs)
         ∙ ap last_pi end.is
-        ∙ latest_more (λ x. Pi (pi_in x)) end.last NoPi end.before
+        ∙ latest_more (λ x. Some (pi_in x)) end.last None end.before
 
     counted_same : pi_in end.last ≡ pi_in g → filled_of (held_for (over gs) (pi_in g)) g ≡ over (gs ++ g ∷ [])
     counted_same same =
@@ -313,8 +308,8 @@ module _ (g : Group) (gs : List Group) where
         pi-same =
             sym (pi-over (last_pi gs) (since_change pi_in gs))
             ∙ pi-held
-            ∙ ap Pi same
-            ∙ sym (latest_more (λ x. Pi (pi_in x)) g NoPi gs)
+            ∙ ap Some same
+            ∙ sym (latest_more (λ x. Some (pi_in x)) g None gs)
 
         since : since_change pi_in gs ++ g ∷ [] ≡ since_change pi_in (gs ++ g ∷ [])
         since = rw end.is (sym (since_same pi_in end.last g end.before same))
@@ -353,7 +348,7 @@ groups-more_agree gs (h ∷ hs) = rw (group-more gs h) (rw append_assoc at (grou
 
 fresh-after : fresh_of ≡ record_after []
 unfolding record_after those latest since_change
-fresh-after = over_none NoPi
+fresh-after = over_none None
 
 -- the law: for all groups that came, the record taken from the fresh one, group by group, is what is said of them
 pub record_agrees : (gs : List Group) → updated_all fresh_of gs ≡ record_after gs

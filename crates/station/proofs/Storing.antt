@@ -10,15 +10,15 @@ use lib.Dec.{eqb, leb}
 use lib.ListN.{length, get_or, set, length-set}
 use lib.Seq.{get_or-set_same, get_or-set_other}
 use borrow.Author.Tests.{eq-eqb, ne_eqb, leb-true}
+use Rattle.std.specs.Prelude.{Option}
 use Rattle.frequencies.proofs.AfTests.{cond_map}
 use Rattle.groups.specs.declared.fields.Content.{Content}
 use Rattle.groups.specs.declared.fields.Content.TheVariants.{Name0A, Name0B, Text2A, Text2B, Clock4A, Other}
 use Rattle.groups.specs.Content.{first_of, second_of}
-use Rattle.station.specs.declared.HeldFlag.{HeldFlag}
-use Rattle.station.specs.declared.Name.{Name}
 use Rattle.station.specs.declared.Text.{Text}
-use Rattle.station.specs.Record.{name_size, name_pairs, text_size, text_pairs}
-use Rattle.station.specs.Update.{pair_stored, name_stored, name_after, text_stored, text_for, text_after}
+use Rattle.station.specs.declared.pairs.Pairs.{Pairs}
+use Rattle.station.specs.Record.{Name, name_size, name_pairs, text_size, text_pairs}
+use Rattle.station.specs.Update.{pair_stored, pairs_stored, name_after, text_stored, text_for, text_after}
 use Rattle.station.specs.History.{listed, character_of, has_name, name_word, is_text, flag_of, has_text, text_word}
 use Rattle.station.proofs.Lists.{length_listed, get_d_listed, listed_by, listed_same}
 
@@ -110,30 +110,39 @@ module _ (n : ℕ) (says : ℕ → Bool) (p : ℕ) where
   marks_beyond beyond =
       listed_same n says (marked_in p says) (λ q h. sym (rw (ne_eqb q p (λ e. omega arith))))
 
+-- ---- characters and marks together
+
+abbrev pub pairs_said : (size pairs : ℕ) → (ℕ → ℕ) → (ℕ → Bool) → Pairs size pairs
+pairs_said size pairs says seen = record { characters = listed size says; seen = listed pairs seen }
+
+-- a pair stored, where the characters are two for each pair
+pairs-stored :
+    (size pairs : ℕ) → size ≡ 2 * pairs → (says : ℕ → ℕ) (seen : ℕ → Bool) (p word : ℕ) →
+    pairs_stored (pairs_said size pairs says seen) p word
+    ≡ pairs_said size pairs (stored_in p word says) (marked_in p seen)
+unfolding pairs_stored
+pairs-stored size pairs double says seen p word = by_test (leb pairs p) refl
+  where
+    by_test : (t : Bool) → leb pairs p ≡ t →
+        pairs_stored (pairs_said size pairs says seen) p word
+        ≡ pairs_said size pairs (stored_in p word says) (marked_in p seen)
+    by_test true e =
+        let beyond = leb-true pairs p e in
+        rw (e, characters_beyond size says p word (omega arith), marks_beyond pairs seen p beyond)
+    by_test false e = rw (e, characters_stored size says p word, marks_stored pairs seen p)
+
 -- ---- the name
 
 abbrev pub name_said : (ℕ → ℕ) → (ℕ → Bool) → Name
-name_said says seen = record { characters = listed name_size says; seen = listed name_pairs seen }
-
-name_stored_lem : (says : ℕ → ℕ) (seen : ℕ → Bool) (p word : ℕ) →
-    name_stored (name_said says seen) p word ≡ name_said (stored_in p word says) (marked_in p seen)
-unfolding name_stored
-name_stored_lem says seen p word = by_test (leb name_pairs p) refl
-  where
-    by_test : (t : Bool) → leb name_pairs p ≡ t →
-        name_stored (name_said says seen) p word ≡ name_said (stored_in p word says) (marked_in p seen)
-    by_test true e =
-        let beyond = leb-true name_pairs p e in
-        rw (e, characters_beyond name_size says p word (omega arith), marks_beyond name_pairs seen p beyond)
-    by_test false e = rw (e, characters_stored name_size says p word, marks_stored name_pairs seen p)
+name_said says seen = pairs_said name_size name_pairs says seen
 
 pub name-taken : (k : Content) (says : ℕ → ℕ) (seen : ℕ → Bool) →
     name_after (name_said says seen) k
     ≡ name_said (λ i. cond (has_name (i / 2) k) (character_of i (name_word k)) (says i))
     (λ p. cond (has_name p k) true (seen p))
 unfolding name_after has_name name_word
-name-taken (Name0A switches a af pair) says seen = name_stored_lem says seen a pair
-name-taken (Name0B switches a pair) says seen = name_stored_lem says seen a pair
+name-taken (Name0A switches a af pair) says seen = pairs-stored name_size name_pairs refl says seen a pair
+name-taken (Name0B switches a pair) says seen = pairs-stored name_size name_pairs refl says seen a pair
 name-taken (Text2A flag a first second) says seen = refl
 name-taken (Text2B flag a pair) says seen = refl
 name-taken Clock4A says seen = refl
@@ -141,21 +150,15 @@ name-taken Other says seen = refl
 
 -- ---- the text
 
-abbrev pub text_said : (ℕ → ℕ) → (ℕ → Bool) → HeldFlag → Text
-text_said says seen flag = record { characters = listed text_size says; seen = listed text_pairs seen; flag = flag }
+abbrev pub text_said : (ℕ → ℕ) → (ℕ → Bool) → Option Bool → Text
+text_said says seen flag = record { pairs = pairs_said text_size text_pairs says seen; flag = flag }
 
-module _ (flag : HeldFlag) where
-  text-stored : (says : ℕ → ℕ) (seen : ℕ → Bool) (p word : ℕ) →
-      text_stored (text_said says seen flag) p word ≡ text_said (stored_in p word says) (marked_in p seen) flag
-  unfolding text_stored
-  text-stored says seen p word = by_test (leb text_pairs p) refl
-    where
-      by_test : (t : Bool) → leb text_pairs p ≡ t →
-          text_stored (text_said says seen flag) p word ≡ text_said (stored_in p word says) (marked_in p seen) flag
-      by_test true e =
-          let beyond = leb-true text_pairs p e in
-          rw (e, characters_beyond text_size says p word (omega arith), marks_beyond text_pairs seen p beyond)
-      by_test false e = rw (e, characters_stored text_size says p word, marks_stored text_pairs seen p)
+text-stored : (flag : Option Bool) (says : ℕ → ℕ) (seen : ℕ → Bool) (p word : ℕ) →
+    text_stored (text_said says seen flag) p word ≡ text_said (stored_in p word says) (marked_in p seen) flag
+unfolding text_stored
+text-stored flag says seen p word =
+    ap (λ (pairs : Pairs text_size text_pairs). record { pairs = pairs; flag = flag })
+    (pairs-stored text_size text_pairs refl says seen p word)
 
 -- pairs 2a and 2a+1, one after the other, are the two of address a
 module _ {A : Type 0} (a : ℕ) (first second old : A) (q : ℕ) where
@@ -190,7 +193,7 @@ text_unchanged text (Text2B flag a pair) e = absurd (true≢false e)
 text_unchanged text Clock4A e = refl
 text_unchanged text Other e = refl
 
-module _ (says : ℕ → ℕ) (seen : ℕ → Bool) (flag : HeldFlag) where
+module _ (says : ℕ → ℕ) (seen : ℕ → Bool) (flag : Option Bool) where
   both_stored : (a first second : ℕ) →
       text_stored (text_stored (text_said says seen flag) (2 * a) first) (2 * a + 1) second
       ≡ text_said (λ i. cond (eqb (i / 2 / 2) a) (character_of i (cond (eqb (i / 2 % 2) 0) first second)) (says i))
@@ -198,7 +201,7 @@ module _ (says : ℕ → ℕ) (seen : ℕ → Bool) (flag : HeldFlag) where
   both_stored a first second =
       ap (λ (t : Text). text_stored t (2 * a + 1) second) (text-stored flag says seen (2 * a) first)
       ∙ text-stored flag (stored_in (2 * a) first says) (marked_in (2 * a) seen) (2 * a + 1) second
-      ∙ (λ i. record { characters = characters i; seen = marks i; flag = flag })
+      ∙ (λ i. record { pairs = record { characters = characters i; seen = marks i }; flag = flag })
     where
       characters :
           listed text_size (stored_in (2 * a + 1) second (stored_in (2 * a) first says))

@@ -8,12 +8,11 @@ use native.Mathlib.Omega.{arith}
 use lib.Dec.{eqb}
 use lib.ListN.{length, get_or, replicate}
 use borrow.Author.Tests.{eq-eqb}
+use Rattle.std.specs.Prelude.{Some, None}
 use Rattle.groups.specs.declared.Group.{Group}
 use Rattle.groups.specs.declared.fields.Content.{Content}
 use Rattle.groups.specs.declared.fields.Content.TheVariants.{Name0A, Name0B, Text2A, Text2B, Clock4A, Other}
 use Rattle.groups.specs.Group.{counts_of}
-use Rattle.station.specs.declared.HeldPi.TheVariants.{Pi, NoPi}
-use Rattle.station.specs.declared.HeldFlag.TheVariants.{Flag, NoFlag}
 use Rattle.station.specs.Record.{space, name_size, name_pairs, text_size, text_pairs, fresh_of}
 use Rattle.station.specs.Update.{updated_all}
 use Rattle.station.specs.History.{those, some, each, latest, since_change, listed, pi_in, pty_in, tp_in, carried_in}
@@ -149,11 +148,11 @@ module _ (gs : List Group) (pi pty : ℕ) (tp : Bool) (all : Every (SaysHeader p
 
   -- PI, PTY and TP are held, once a group came
   pub header_held : (gs ≡ [] → ⊥) →
-      ((updated_all fresh_of gs).pi ≡ Pi pi) × ((updated_all fresh_of gs).pty ≡ pty) × ((updated_all fresh_of gs).tp ≡ tp)
+      ((updated_all fresh_of gs).pi ≡ Some pi) × ((updated_all fresh_of gs).pty ≡ pty) × ((updated_all fresh_of gs).tp ≡ tp)
   unfolding record_over
   header_held some-came =
       rw (record_agrees gs, record_over_lem) (
-        last-is (λ g. Pi (pi_in g)) (Pi pi) NoPi (every_by (λ g says. ap Pi says.pi_is) gs all),
+        last-is (λ g. Some (pi_in g)) (Some pi) None (every_by (λ g says. ap Some says.pi_is) gs all),
         last-is pty_in pty 0 (every_by (λ g says. says.pty_is) gs all),
         last-is tp_in tp false (every_by (λ g says. says.tp_is) gs all),
       )
@@ -179,8 +178,8 @@ module _ (gs : List Group) (pi pty : ℕ) (tp : Bool) (all : Every (SaysHeader p
 
   -- the whole text is held with its flag, and each pair of it is marked seen
   pub text_held : (flag : Bool) (text : List ℕ) → length text ≡ text_size → Every (SaysText flag text) gs → TextCame gs →
-      ((updated_all fresh_of gs).text.characters ≡ text) × ((updated_all fresh_of gs).text.seen ≡ replicate text_pairs true)
-      × ((updated_all fresh_of gs).text.flag ≡ Flag flag)
+      ((updated_all fresh_of gs).text.pairs.characters ≡ text) × ((updated_all fresh_of gs).text.pairs.seen ≡ replicate text_pairs true)
+      × ((updated_all fresh_of gs).text.flag ≡ Some flag)
   unfolding record_over text_over
   text_held flag text size told came = rw (record_agrees gs, record_over_lem) (characters, marks, last-flag)
     where
@@ -210,9 +209,9 @@ module _ (gs : List Group) (pi pty : ℕ) (tp : Bool) (all : Every (SaysHeader p
           rw one-flag
           (listed_same text_pairs (text_seen (text_groups gs)) (λ _. true) came-text ∙ listed_replicate text_pairs true)
 
-      last-flag : last_flag (text_groups gs) ≡ Flag flag
+      last-flag : last_flag (text_groups gs) ≡ Some flag
       last-flag =
-          latest_said (λ g. Flag (flag_of (carried_in g))) (Flag flag) NoFlag (λ g. is_text (carried_in g)) gs
+          latest_said (λ g. Some (flag_of (carried_in g))) (Some flag) None (λ g. is_text (carried_in g)) gs
           (some_weaker (λ g. has_text 0 (carried_in g)) (λ g. is_text (carried_in g)) (λ g. text_of-text 0 (carried_in g)) gs
           (came 0 (omega arith)))
-          (every_by (λ g says is. ap Flag (says.flag_is is)) gs told)
+          (every_by (λ g says is. ap Some (says.flag_is is)) gs told)

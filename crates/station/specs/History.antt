@@ -1,8 +1,6 @@
 -- The record, said of all groups that came, in the order in which they came.
-use Rattle.std.specs.Prelude.{ℕ, zero, suc, ◌/◌, ◌%◌, Bool, true, false, cond, ◌&&◌, ◌||◌, List, [], ◌∷◌, map, eqb}
+use Rattle.std.specs.Prelude.{ℕ, zero, suc, ◌/◌, ◌%◌, Bool, true, false, cond, ◌&&◌, ◌||◌, List, [], ◌∷◌, map, eqb, Option, Some, None}
 use Rattle.frequencies.specs.AfHistory.{af_after}
-use Rattle.clock.specs.declared.Held.{Held}
-use Rattle.clock.specs.declared.Held.TheVariants.{At, Nothing}
 use Rattle.clock.specs.declared.Clock.{Clock}
 use Rattle.clock.specs.Range.{in_range}
 use Rattle.clock.specs.Words.{clock_in}
@@ -11,14 +9,9 @@ use Rattle.groups.specs.declared.fields.Content.{Content}
 use Rattle.groups.specs.declared.fields.Content.TheVariants.{Name0A, Name0B, Text2A, Text2B, Clock4A, Other}
 use Rattle.groups.specs.Group.{word_of, counts_of}
 use Rattle.groups.specs.Content.{header_of, content_of, first_of, second_of}
-use Rattle.station.specs.declared.HeldPi.{HeldPi}
-use Rattle.station.specs.declared.HeldPi.TheVariants.{Pi, NoPi}
-use Rattle.station.specs.declared.HeldFlag.{HeldFlag}
-use Rattle.station.specs.declared.HeldFlag.TheVariants.{Flag, NoFlag}
-use Rattle.station.specs.declared.Name.{Name}
 use Rattle.station.specs.declared.Text.{Text}
 use Rattle.station.specs.declared.Record.{Record}
-use Rattle.station.specs.Record.{space, name_size, name_pairs, text_size, text_pairs}
+use Rattle.station.specs.Record.{Name, space, name_size, name_pairs, text_size, text_pairs}
 
 -- ---- some of the groups that came, and what they say
 
@@ -190,14 +183,17 @@ text_character gs i =
 abbrev pub text_seen : List Group → ℕ → Bool
 text_seen gs p = some (λ g. has_text p (carried_in g)) gs
 
-abbrev pub last_flag : List Group → HeldFlag
-last_flag gs = latest NoFlag (λ g. Flag (flag_of (carried_in g))) gs
+abbrev pub last_flag : List Group → Option Bool
+last_flag gs = latest None (λ g. Some (flag_of (carried_in g))) gs
 
 unfoldable pub text_over : List Group → Text
 text_over gs =
     record {
-      characters = listed text_size (text_character (since_flag gs));
-      seen = listed text_pairs (text_seen (since_flag gs));
+      pairs =
+          record {
+            characters = listed text_size (text_character (since_flag gs));
+            seen = listed text_pairs (text_seen (since_flag gs));
+          };
       flag = last_flag (text_groups gs);
     }
 
@@ -206,11 +202,11 @@ unfoldable pub af_words : List Group → List ℕ
 af_words gs = map (λ g. af_word_of (carried_in g)) (those (λ g. has_af (carried_in g)) gs)
 
 -- clock: that of the last 4A with a clock in range, or none
-unfoldable pub clock_over : List Group → Held
-clock_over gs = latest Nothing (λ g. At (clock_of g)) (those (λ g. is_clock (carried_in g) && in_range (clock_of g)) gs)
+unfoldable pub clock_over : List Group → Option Clock
+clock_over gs = latest None (λ g. Some (clock_of g)) (those (λ g. is_clock (carried_in g) && in_range (clock_of g)) gs)
 
 -- the record of a PI and a stretch; PTY and TP are those of its last group
-unfoldable pub record_over : HeldPi → List Group → Record
+unfoldable pub record_over : Option ℕ → List Group → Record
 record_over pi gs =
     record {
       pi = pi;
@@ -229,8 +225,8 @@ abbrev pub counting : List Group → List Group
 counting gs = those counts_of gs
 
 -- PI is that of the last group that counts, or none
-abbrev pub last_pi : List Group → HeldPi
-last_pi gs = latest NoPi (λ g. Pi (pi_in g)) gs
+abbrev pub last_pi : List Group → Option ℕ
+last_pi gs = latest None (λ g. Some (pi_in g)) gs
 
 -- everything else is said of the groups that count since the PI last changed
 unfoldable pub record_after : List Group → Record

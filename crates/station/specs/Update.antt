@@ -1,35 +1,30 @@
 -- The record after one group: one definition for each rule, in the order of the rules.
-use Rattle.std.specs.Prelude.{ℕ, ◌+◌, ◌*◌, Bool, true, false, cond, not, List, [], ◌∷◌, eqb, leb, set}
+use Rattle.std.specs.Prelude.{ℕ, ◌+◌, ◌*◌, Bool, true, false, cond, not, List, [], ◌∷◌, eqb, leb, set, Option, Some, None}
 use Rattle.std.specs.Bool.{beq}
 use Rattle.frequencies.specs.declared.AfList.{AfList}
 use Rattle.frequencies.specs.AfList.{taken_of}
-use Rattle.clock.specs.declared.Held.{Held}
-use Rattle.clock.specs.declared.Held.TheVariants.{At, Nothing}
+use Rattle.clock.specs.declared.Clock.{Clock}
 use Rattle.clock.specs.Words.{read_of}
 use Rattle.groups.specs.declared.Group.{Group}
 use Rattle.groups.specs.declared.fields.Content.{Content}
 use Rattle.groups.specs.declared.fields.Content.TheVariants.{Name0A, Name0B, Text2A, Text2B, Clock4A, Other}
 use Rattle.groups.specs.Group.{word_of, counts_of}
 use Rattle.groups.specs.Content.{header_of, content_of, first_of, second_of}
-use Rattle.station.specs.declared.HeldPi.{HeldPi}
-use Rattle.station.specs.declared.HeldPi.TheVariants.{Pi, NoPi}
-use Rattle.station.specs.declared.HeldFlag.{HeldFlag}
-use Rattle.station.specs.declared.HeldFlag.TheVariants.{Flag, NoFlag}
-use Rattle.station.specs.declared.Name.{Name}
+use Rattle.station.specs.declared.pairs.Pairs.{Pairs}
 use Rattle.station.specs.declared.Text.{Text}
 use Rattle.station.specs.declared.Record.{Record}
-use Rattle.station.specs.Record.{name_pairs, text_pairs, no_text, fresh_with}
+use Rattle.station.specs.Record.{Name, no_text, fresh_with}
 
 -- ---- PI, PTY and TP
 
 -- this PI is held
-unfoldable pub holds_pi : HeldPi → ℕ → Bool
-holds_pi (Pi held) pi = eqb held pi
-holds_pi NoPi pi = false
+unfoldable pub holds_pi : Option ℕ → ℕ → Bool
+holds_pi (Some held) pi = eqb held pi
+holds_pi None pi = false
 
 -- PI missing or different: the record is made fresh with this PI first
 unfoldable pub held_for : Record → ℕ → Record
-held_for station pi = cond (holds_pi station.pi pi) station (fresh_with (Pi pi))
+held_for station pi = cond (holds_pi station.pi pi) station (fresh_with (Some pi))
 
 -- ---- name and text
 
@@ -38,10 +33,14 @@ abbrev pub pair_stored : List ℕ → ℕ → ℕ → List ℕ
 pair_stored characters p word = set (set characters (2 * p) (first_of word)) (2 * p + 1) (second_of word)
 
 -- characters are stored and marked seen, by pairs; nothing changes where there is no such pair
-unfoldable pub name_stored : Name → ℕ → ℕ → Name
-name_stored name p word =
-    cond (leb name_pairs p) name
-    (record { characters = pair_stored name.characters p word; seen = set name.seen p true })
+unfoldable pub pairs_stored : {size pairs : ℕ} → Pairs size pairs → ℕ → ℕ → Pairs size pairs
+pairs_stored {size} {pairs} old p word =
+    cond (leb pairs p) old
+    (record { characters = pair_stored old.characters p word; seen = set old.seen p true })
+
+-- a pair of the name
+abbrev pub name_stored : Name → ℕ → ℕ → Name
+name_stored name p word = pairs_stored name p word
 
 -- 0A, 0B: word 4 has name characters 2a and 2a+1
 unfoldable pub name_after : Name → Content → Name
@@ -54,24 +53,22 @@ name_after name Other = name
 
 -- the same for the text
 unfoldable pub text_stored : Text → ℕ → ℕ → Text
-text_stored text p word =
-    cond (leb text_pairs p) text
-    (record { characters = pair_stored text.characters p word; seen = set text.seen p true; flag = text.flag })
+text_stored text p word = record { pairs = pairs_stored text.pairs p word; flag = text.flag }
 
 -- the text with a flag held
-abbrev pub with_flag : Text → HeldFlag → Text
-with_flag text flag = record { characters = text.characters; seen = text.seen; flag = flag }
+abbrev pub with_flag : Text → Option Bool → Text
+with_flag text flag = record { pairs = text.pairs; flag = flag }
 
 -- another flag than this is held
-unfoldable pub holds_other : HeldFlag → Bool → Bool
-holds_other (Flag held) flag = not (beq held flag)
-holds_other NoFlag flag = false
+unfoldable pub holds_other : Option Bool → Bool → Bool
+holds_other (Some held) flag = not (beq held flag)
+holds_other None flag = false
 
 -- a text flag that differs from the one held first clears the text and its marks; the flag of the latest text group
 -- is held, and where none was held nothing is cleared
 unfoldable pub text_for : Text → Bool → Text
 text_for text flag =
-    cond (holds_other text.flag flag) (no_text (Flag flag)) (with_flag text (Flag flag))
+    cond (holds_other text.flag flag) (no_text (Some flag)) (with_flag text (Some flag))
 
 -- 2A: words 3 and 4 have characters 4a to 4a+3; 2B: word 4 has characters 2a and 2a+1
 unfoldable pub text_after : Text → Content → Text
@@ -95,12 +92,12 @@ af_list_after list Clock4A = list
 af_list_after list Other = list
 
 -- a clock in range is stored; otherwise the held one stays
-unfoldable pub clock_or : Held → Held → Held
-clock_or (At clock) held = At clock
-clock_or Nothing held = held
+unfoldable pub clock_or : Option Clock → Option Clock → Option Clock
+clock_or (Some clock) held = Some clock
+clock_or None held = held
 
 -- 4A: words 2, 3 and 4 have a clock
-unfoldable pub clock_after : Held → Content → ℕ → ℕ → ℕ → Held
+unfoldable pub clock_after : Option Clock → Content → ℕ → ℕ → ℕ → Option Clock
 clock_after held (Name0A switches a af pair) word2 word3 word4 = held
 clock_after held (Name0B switches a pair) word2 word3 word4 = held
 clock_after held (Text2A flag a first second) word2 word3 word4 = held

@@ -3,18 +3,17 @@
 #![tactic(auto)]
 
 ghost use Rattle.std.specs.Prelude.{◌≡◌};
-ghost use Rattle.station.specs.Record.{no_name, no_text, fresh_with, fresh_of};
-ghost use Rattle.station.specs.Update.{holds_pi, held_for, filled_of, updated_of};
+ghost use Rattle.station.specs.Record.{no_text, fresh_with, fresh_of};
+ghost use Rattle.station.specs.Update.{held_for, filled_of, updated_of};
 
+pub mod pairs;
 pub mod read;
 mod stored;
 
-use clock::Held;
+use clock::Clock;
 use frequencies::AfList;
 use groups::Group;
-
-// The character at every place where nothing was stored.
-const SPACE: u8 = 32;
+use pairs::Pairs;
 
 // The characters of the name and of the text, and their pairs.
 const NAME_SIZE: usize = 8;
@@ -25,80 +24,50 @@ const TEXT_SIZE: usize = 64;
 
 const TEXT_PAIRS: usize = 32;
 
-// The PI held, or none.
-#[derive(Clone, Copy)]
-pub enum HeldPi {
-    Pi(u16),
-    NoPi,
-}
+// The name.
+pub type Name = Pairs<NAME_SIZE, NAME_PAIRS>;
 
-// The text flag held, or none.
-#[derive(Clone, Copy)]
-pub enum HeldFlag {
-    Flag(bool),
-    NoFlag,
-}
-
-// The characters of the name, and for each pair of them whether it was seen.
-#[derive(Clone, Copy)]
-pub struct Name {
-    pub characters: [u8; NAME_SIZE],
-    pub seen: [bool; NAME_PAIRS],
-}
-
-// The characters of the text, for each pair of them whether it was seen, and the flag of the latest text group.
+// The text, and the flag of the latest text group, if one came.
 #[derive(Clone, Copy)]
 pub struct Text {
-    pub characters: [u8; TEXT_SIZE],
-    pub seen: [bool; TEXT_PAIRS],
-    pub flag: HeldFlag,
+    pub pairs: Pairs<TEXT_SIZE, TEXT_PAIRS>,
+    pub flag: Option<bool>,
 }
 
-// All that is held of a station.
+// All that is held of a station: of the PI and the clock none before one came.
 #[derive(Clone, Copy)]
 pub struct Record {
-    pub pi: HeldPi,
+    pub pi: Option<u16>,
     pub pty: u8,
     pub tp: bool,
     pub name: Name,
     pub text: Text,
     pub af: AfList,
-    pub clock: Held,
-}
-
-// A name of spaces, none seen.
-fn no_name() -> Name
-    ensures { result ≡ no_name }
-{
-    Name {
-        characters: [SPACE; NAME_SIZE],
-        seen: [false; NAME_PAIRS],
-    }
+    pub clock: Option<Clock>,
 }
 
 // A text of spaces, none seen, with the flag given.
-fn no_text(flag: HeldFlag) -> Text
+fn no_text(flag: Option<bool>) -> Text
     ensures { result ≡ no_text flag }
 {
     Text {
-        characters: [SPACE; TEXT_SIZE],
-        seen: [false; TEXT_PAIRS],
-        flag: flag,
+        pairs: Pairs::none(),
+        flag,
     }
 }
 
 // A fresh record, but for the PI given.
-fn fresh_with(pi: HeldPi) -> Record
+fn fresh_with(pi: Option<u16>) -> Record
     ensures { result ≡ fresh_with pi }
 {
     Record {
-        pi: pi,
+        pi,
         pty: 0,
         tp: false,
-        name: no_name(),
-        text: no_text(HeldFlag::NoFlag),
+        name: Pairs::none(),
+        text: no_text(None),
         af: frequencies::empty(),
-        clock: Held::Nothing,
+        clock: None,
     }
 }
 
@@ -106,53 +75,41 @@ fn fresh_with(pi: HeldPi) -> Record
 pub fn fresh() -> Record
     ensures { result ≡ fresh_of }
 {
-    fresh_with(HeldPi::NoPi)
-}
-
-// Whether this PI is held.
-fn holds_pi(held: HeldPi, pi: u16) -> bool
-    ensures { result ≡ holds_pi held pi }
-{
-    match held {
-        HeldPi::Pi(known) => known == pi,
-        HeldPi::NoPi => false,
-    }
+    fresh_with(None)
 }
 
 // The record that a group with this PI goes into: the one given, or a fresh one where its PI is missing or different.
+#[tactic(auto, unfolding(crate::specs::Update::held_for, crate::specs::Update::holds_pi))]
 fn held_for(station: Record, pi: u16) -> Record
     ensures { result ≡ held_for station pi }
 {
-    let held = station.pi;
-    if holds_pi(held, pi) {
-        return station;
+    if station.pi == Some(pi) {
+        station
+    } else {
+        fresh_with(Some(pi))
     }
-    fresh_with(HeldPi::Pi(pi))
 }
 
 // The record with what a group says, whose PI it holds.
+#[tactic(auto, unfolding(crate::specs::Update::filled_of))]
 fn filled(station: Record, group: Group) -> Record
     ensures { result ≡ filled_of station group }
 {
     let header = groups::fields::header_of(group);
     let content = groups::fields::content_of(group);
-    let pi = station.pi;
-    let name = station.name;
-    let text = station.text;
-    let af = station.af;
-    let clock = station.clock;
     Record {
-        pi: pi,
+        pi: station.pi,
         pty: header.pty,
         tp: header.tp,
-        name: stored::with_name(name, content),
-        text: stored::with_text(text, content),
-        af: stored::with_af(af, content),
-        clock: stored::with_clock(clock, content, group),
+        name: stored::with_name(station.name, content),
+        text: stored::with_text(station.text, content),
+        af: stored::with_af(station.af, content),
+        clock: stored::with_clock(station.clock, content, group),
     }
 }
 
 // The record after a group.
+#[tactic(auto, unfolding(crate::specs::Update::updated_of))]
 pub fn updated(station: Record, group: Group) -> Record
     ensures { result ≡ updated_of station group }
 {
@@ -167,8 +124,7 @@ pub fn updated(station: Record, group: Group) -> Record
 pub fn take_in(station: &mut Record, group: Group)
     ensures { station.new ≡ updated_of station.old group }
 {
-    let before = *station;
-    *station = updated(before, group);
+    *station = updated(*station, group);
 }
 
 // The record after a group, taken into a record of its own.

@@ -7,12 +7,12 @@ ghost use Rattle.station.specs.Record.{number_of_pi, values_of_pi, number_of_fla
 ghost use Rattle.station.specs.Record.{pi_of, pty_of, tp_of, name_characters_of, name_seen_of};
 ghost use Rattle.station.specs.Record.{text_characters_of, text_seen_of, text_flag_of, af_list_of, held_clock_of};
 
-use crate::{HeldFlag, HeldPi, Record};
-use clock::{Held, Local};
+use crate::Record;
+use clock::{Clock, DateTime, OutOfRange};
 use frequencies::AfList;
 
 // The PI held, or none.
-pub fn pi(station: Record) -> HeldPi
+pub fn pi(station: Record) -> Option<u16>
     ensures { (result ≡ pi_of station) × (number_of_pi result ≡ 0) × (values_of_pi result ≡ values_of_pi station.pi) }
 {
     station.pi
@@ -36,41 +36,36 @@ pub fn tp(station: Record) -> bool
 pub fn name_characters(station: Record) -> [u8; crate::NAME_SIZE]
     ensures { result ≡ name_characters_of station }
 {
-    let name = station.name;
-    name.characters
+    station.name.characters
 }
 
 // For each pair of the name's characters whether it was seen.
 pub fn name_seen(station: Record) -> [bool; crate::NAME_PAIRS]
     ensures { result ≡ name_seen_of station }
 {
-    let name = station.name;
-    name.seen
+    station.name.seen
 }
 
 // The characters of the text.
 pub fn text_characters(station: Record) -> [u8; crate::TEXT_SIZE]
     ensures { result ≡ text_characters_of station }
 {
-    let text = station.text;
-    text.characters
+    station.text.pairs.characters
 }
 
 // For each pair of the text's characters whether it was seen.
 pub fn text_seen(station: Record) -> [bool; crate::TEXT_PAIRS]
     ensures { result ≡ text_seen_of station }
 {
-    let text = station.text;
-    text.seen
+    station.text.pairs.seen
 }
 
 // The text flag held, or none.
-pub fn text_flag(station: Record) -> HeldFlag
+pub fn text_flag(station: Record) -> Option<bool>
     ensures { (result ≡ text_flag_of station) × (number_of_flag result ≡ 0)
         × (values_of_flag result ≡ values_of_flag station.text.flag) }
 {
-    let text = station.text;
-    text.flag
+    station.text.flag
 }
 
 // The list of alternative frequencies.
@@ -81,7 +76,7 @@ pub fn af_list(station: Record) -> AfList
 }
 
 // The clock held, or none.
-pub fn held_clock(station: Record) -> Held
+pub fn held_clock(station: Record) -> Option<Clock>
     ensures { (result ≡ held_clock_of station) × (number_of_held result ≡ 0)
         × (values_of_held result ≡ values_of_held station.clock) }
 {
@@ -89,10 +84,9 @@ pub fn held_clock(station: Record) -> Held
 }
 
 // The local date and time of the clock held.
-pub fn local_date(station: Record) -> Local
+pub fn local_date(station: Record) -> Result<DateTime, OutOfRange>
     ensures { (result ≡ local_date_of station.clock) × (number_of_local result ≡ cond (date_refused station.clock) 10 0)
         × (values_of_local result ≡ cond (date_refused station.clock) [] (date_values station.clock)) }
 {
-    let held = station.clock;
-    clock::local_date(held)
+    clock::local_date(station.clock)
 }

@@ -1,102 +1,66 @@
 // What a group's content does to each part of the record: name, text, AF list, clock.
 ghost use Rattle.std.specs.Prelude.{◌≡◌};
 ghost use Rattle.groups.specs.Group.{word_of};
-ghost use Rattle.station.specs.Update.{name_stored, name_after, text_stored, holds_other, text_for, text_after};
-ghost use Rattle.station.specs.Update.{af_list_after, clock_or, clock_after};
+ghost use Rattle.station.specs.Update.{name_after, text_stored, text_for, text_after};
+ghost use Rattle.station.specs.Update.{af_list_after, clock_after};
 
-use crate::{HeldFlag, Name, Text};
-use clock::Held;
+use crate::{Name, Text};
+use clock::Clock;
 use frequencies::AfList;
 use groups::Group;
 use groups::fields::Content;
 
-// The name with a pair of characters stored and marked seen.
-fn name_stored(name: Name, pair: usize, word: u16) -> Name
-    ensures { result ≡ name_stored name pair word }
-{
-    if crate::NAME_PAIRS <= pair {
-        return name;
-    }
-    let mut characters = name.characters;
-    let mut seen = name.seen;
-    characters[2 * pair] = groups::fields::first(word);
-    characters[2 * pair + 1] = groups::fields::second(word);
-    seen[pair] = true;
-    Name { characters, seen }
-}
-
 // The name after a group's content: 0A and 0B store a pair.
+#[tactic(auto, unfolding(crate::specs::Update::name_after))]
 pub(crate) fn with_name(name: Name, content: Content) -> Name
     ensures { result ≡ name_after name content }
 {
     match content {
-        Content::Name0A { address, pair, .. } => name_stored(name, address as usize, pair),
-        Content::Name0B { address, pair, .. } => name_stored(name, address as usize, pair),
-        Content::Text2A { .. } => name,
-        Content::Text2B { .. } => name,
-        Content::Clock4A => name,
-        Content::Other => name,
+        Content::Name0A { address, pair, .. } | Content::Name0B { address, pair, .. } => {
+            name.stored(usize::from(address), pair)
+        }
+        Content::Text2A { .. } | Content::Text2B { .. } | Content::Clock4A | Content::Other => name,
     }
 }
 
 // The text with a pair of characters stored and marked seen.
+#[tactic(auto, unfolding(crate::specs::Update::text_stored))]
 fn text_stored(text: Text, pair: usize, word: u16) -> Text
     ensures { result ≡ text_stored text pair word }
 {
-    if crate::TEXT_PAIRS <= pair {
-        return text;
-    }
-    let mut characters = text.characters;
-    let mut seen = text.seen;
-    characters[2 * pair] = groups::fields::first(word);
-    characters[2 * pair + 1] = groups::fields::second(word);
-    seen[pair] = true;
-    let flag = text.flag;
     Text {
-        characters,
-        seen,
-        flag,
-    }
-}
-
-// Whether another flag than this is held.
-fn holds_other(held: HeldFlag, flag: bool) -> bool
-    ensures { result ≡ holds_other held flag }
-{
-    match held {
-        HeldFlag::Flag(known) => known != flag,
-        HeldFlag::NoFlag => false,
+        pairs: text.pairs.stored(pair, word),
+        flag: text.flag,
     }
 }
 
 // The text that a group with this flag goes into: cleared where another flag is held; the group's flag is held.
+#[tactic(auto, unfolding(crate::specs::Update::text_for, crate::specs::Update::holds_other))]
 fn text_for(text: Text, flag: bool) -> Text
     ensures { result ≡ text_for text flag }
 {
-    let held = text.flag;
-    if holds_other(held, flag) {
-        return crate::no_text(HeldFlag::Flag(flag));
-    }
-    Text {
-        flag: HeldFlag::Flag(flag),
-        ..text
+    match text.flag {
+        Some(held) if held != flag => crate::no_text(Some(flag)),
+        _ => Text {
+            flag: Some(flag),
+            ..text
+        },
     }
 }
 
 // The text after a group's content: 2A stores two pairs, 2B one, after the flag was looked at.
+#[tactic(auto, unfolding(crate::specs::Update::text_after))]
 pub(crate) fn with_text(text: Text, content: Content) -> Text
     ensures { result ≡ text_after text content }
 {
     match content {
-        Content::Name0A { .. } => text,
-        Content::Name0B { .. } => text,
         Content::Text2A {
             flag,
             address,
             first,
             second,
         } => {
-            let at = 2 * (address as usize);
+            let at = 2 * usize::from(address);
             let half = text_stored(text_for(text, flag), at, first);
             text_stored(half, at + 1, second)
         }
@@ -104,53 +68,44 @@ pub(crate) fn with_text(text: Text, content: Content) -> Text
             flag,
             address,
             pair,
-        } => text_stored(text_for(text, flag), address as usize, pair),
-        Content::Clock4A => text,
-        Content::Other => text,
+        } => text_stored(text_for(text, flag), usize::from(address), pair),
+        Content::Name0A { .. } | Content::Name0B { .. } | Content::Clock4A | Content::Other => text,
     }
 }
 
 // The AF list after a group's content: 0A gives it a word.
+#[tactic(auto, unfolding(crate::specs::Update::af_list_after))]
 pub(crate) fn with_af(list: AfList, content: Content) -> AfList
     ensures { result ≡ af_list_after list content }
 {
     match content {
         Content::Name0A { af, .. } => frequencies::taken(list, af),
-        Content::Name0B { .. } => list,
-        Content::Text2A { .. } => list,
-        Content::Text2B { .. } => list,
-        Content::Clock4A => list,
-        Content::Other => list,
+        Content::Name0B { .. }
+        | Content::Text2A { .. }
+        | Content::Text2B { .. }
+        | Content::Clock4A
+        | Content::Other => list,
     }
 }
 
-// The clock that came, or the one held where that is out of range.
-fn clock_or(came: Held, held: Held) -> Held
-    ensures { result ≡ clock_or came held }
-{
-    match came {
-        Held::At(clock) => Held::At(clock),
-        Held::Nothing => held,
-    }
-}
-
-// The clock after a group's content: 4A stores one in range.
-pub(crate) fn with_clock(held: Held, content: Content, group: Group) -> Held
+// The clock after a group's content: 4A stores one in range, and where it is out of range the held one stays.
+#[tactic(auto, unfolding(crate::specs::Update::clock_after, crate::specs::Update::clock_or))]
+pub(crate) fn with_clock(held: Option<Clock>, content: Content, group: Group) -> Option<Clock>
     ensures { result ≡ clock_after held content (word_of group 1) (word_of group 2) (word_of group 3) }
 {
     match content {
-        Content::Name0A { .. } => held,
-        Content::Name0B { .. } => held,
-        Content::Text2A { .. } => held,
-        Content::Text2B { .. } => held,
         Content::Clock4A => {
             let came = clock::read(
                 groups::word(group, 1),
                 groups::word(group, 2),
                 groups::word(group, 3),
             );
-            clock_or(came, held)
+            came.or(held)
         }
-        Content::Other => held,
+        Content::Name0A { .. }
+        | Content::Name0B { .. }
+        | Content::Text2A { .. }
+        | Content::Text2B { .. }
+        | Content::Other => held,
     }
 }

@@ -3,7 +3,7 @@
 // words, high byte first, and a byte whose low four bits say which words were good, bit 3 for word 1.
 #![tactic(auto)]
 
-ghost use Rattle.std.specs.Prelude.{◌+◌, ◌≤◌, length};
+ghost use Rattle.std.specs.Prelude.{◌≡◌, length};
 
 mod lines;
 
@@ -16,39 +16,35 @@ use std::io::Read;
 // The most that is read of the streams.
 const ROOM: usize = 100000;
 
+// The most streams that are taken.
+const MOST: usize = 1000;
+
 // The bytes of a group.
 const GROUP_SIZE: usize = 9;
 
-fn wide(byte: u8) -> usize
-    ensures { result ≤ 255 }
-{
-    byte as usize
-}
-
-fn pair(high: u8, low: u8) -> usize
-    ensures { result ≤ 65535 }
-{
-    wide(high) * 256 + wide(low)
+// The word of two bytes, high first.
+fn pair(high: u8, low: u8) -> u16 {
+    u16::from_be_bytes([high, low])
 }
 
 // A block with the word of two bytes, good where the mark's last bit is 1.
 fn judged(mark: u8, high: u8, low: u8) -> Judged {
     if mark % 2 == 1 {
-        Ok(pair(high, low) as u16)
+        Ok(pair(high, low))
     } else {
         Err(BlockError::Bad)
     }
 }
 
-// The group in the nine bytes at a place.
-fn group_at(bytes: &[u8], at: usize) -> Group
-    requires { at + 9 ≤ length bytes.now }
+// The group in nine bytes.
+fn group_in(bytes: &[u8]) -> Group
+    requires { length bytes.now ≡ 9 }
 {
-    let mask = bytes[at + 8];
-    let first = judged(mask / 8, bytes[at], bytes[at + 1]);
-    let second = judged(mask / 4, bytes[at + 2], bytes[at + 3]);
-    let third = judged(mask / 2, bytes[at + 4], bytes[at + 5]);
-    let fourth = judged(mask, bytes[at + 6], bytes[at + 7]);
+    let mask = bytes[8];
+    let first = judged(mask / 8, bytes[0], bytes[1]);
+    let second = judged(mask / 4, bytes[2], bytes[3]);
+    let third = judged(mask / 2, bytes[4], bytes[5]);
+    let fourth = judged(mask, bytes[6], bytes[7]);
     let half = groups::with_block(groups::with_block(groups::empty(), 0, first), 1, second);
     groups::with_block(groups::with_block(half, 2, third), 3, fourth)
 }
@@ -56,41 +52,26 @@ fn group_at(bytes: &[u8], at: usize) -> Group
 // The record of the groups in some bytes.
 fn record_of(bytes: &[u8]) -> Record {
     let mut station = station::fresh();
-    let mut at: usize = 0;
-    while GROUP_SIZE <= bytes.len() - at {
-        station = station::taken(station, group_at(bytes, at));
-        at += GROUP_SIZE;
+    for group in bytes.chunks_exact(GROUP_SIZE) {
+        station = station::taken(station, group_in(group));
     }
     station
 }
 
-// Takes the stream at a place of the input, and answers where the next begins: at the end where it is not whole.
-fn run_stream(rt: &impl Print, input: &[u8], at: usize, number: usize) -> io::Result<usize> {
-    let end = input.len();
-    if end < 2 {
-        return Ok(end);
-    }
-    if end > ROOM {
-        return Ok(end);
-    }
-    if end - 2 < at {
-        return Ok(end);
-    }
-    let from = at + 2;
-    let next = from + GROUP_SIZE * pair(input[at], input[at + 1]);
-    if end < next {
-        return Ok(end);
-    }
-    lines::write_record(rt, number, record_of(&input[from..next]))?;
-    Ok(next)
+// The groups of the first stream in some bytes, and what comes after it; none where it is not whole.
+fn first_stream(bytes: &[u8]) -> Option<(&[u8], &[u8])> {
+    let (count, rest) = bytes.split_first_chunk::<2>()?;
+    rest.split_at_checked(GROUP_SIZE * usize::from(pair(count[0], count[1])))
 }
 
 fn run_streams(rt: &impl Print, input: &[u8]) -> io::Result<()> {
-    let mut at: usize = 0;
-    for number in 0..1000usize {
-        if at < input.len() {
-            at = run_stream(rt, input, at, number)?;
-        }
+    let mut rest = input;
+    for number in 0..MOST {
+        let Some((groups, after)) = first_stream(rest) else {
+            return Ok(());
+        };
+        lines::write_record(rt, number, record_of(groups))?;
+        rest = after;
     }
     Ok(())
 }

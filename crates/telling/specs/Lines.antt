@@ -1,5 +1,5 @@
 -- The lines of a recording: where lock is taken and lost, and each group. A line is its pieces, one behind the other.
-use Rattle.std.specs.Prelude.{ℕ, ◌+◌, List, [], ◌∷◌, ◌++◌, Bool, cond}
+use Rattle.std.specs.Prelude.{ℕ, ◌+◌, List, [], ◌∷◌, ◌++◌, Bool, cond, Option, Some, None, Result, Ok, Err}
 use Rattle.groups.specs.Group.{word_of, good_of, is_all_good_of}
 use Rattle.groups.specs.Header.{type_of, version_of}
 use Rattle.groups.specs.Content.{content_of, first_of, second_of}
@@ -7,14 +7,12 @@ use Rattle.groups.specs.declared.Group.{Group}
 use Rattle.groups.specs.declared.fields.Content.{Content}
 use Rattle.groups.specs.declared.fields.Content.TheVariants.{Name0A, Name0B, Text2A, Text2B, Clock4A, Other}
 use Rattle.frequencies.specs.Frequency.{frequency_of}
-use Rattle.frequencies.specs.declared.FrequencyAnswer.{FrequencyAnswer}
-use Rattle.frequencies.specs.declared.FrequencyAnswer.TheVariants.{Khz, NoFrequency}
+use Rattle.frequencies.specs.declared.NoFrequency.{NoFrequency}
 use Rattle.clock.specs.Words.{read_of}
 use Rattle.clock.specs.Local.{local_date_of}
-use Rattle.clock.specs.declared.Held.{Held}
-use Rattle.clock.specs.declared.Held.TheVariants.{At, Nothing}
-use Rattle.clock.specs.declared.Local.{Local}
-use Rattle.clock.specs.declared.Local.TheVariants.{Date, OutOfRange}
+use Rattle.clock.specs.declared.Clock.{Clock}
+use Rattle.clock.specs.declared.DateTime.{DateTime}
+use Rattle.clock.specs.declared.OutOfRange.{OutOfRange}
 use Rattle.letters.specs.Letters.{codes}
 use Rattle.telling.specs.Pieces.{Piece, Word, Number, Two, Hex, Character, Silent, line_text}
 
@@ -82,13 +80,13 @@ name_line address pair =
     ∷ quote ∷ []
 
 -- an AF code: its frequency in kHz, or the code itself where it has none
-abbrev pub af_label : FrequencyAnswer → Piece
-af_label (Khz khz) = space
-af_label NoFrequency = Word (codes " code ")
+abbrev pub af_label : Result ℕ NoFrequency → Piece
+af_label (Ok khz) = space
+af_label (Err e) = Word (codes " code ")
 
-abbrev pub af_piece : FrequencyAnswer → ℕ → Piece
-af_piece (Khz khz) code = Number khz
-af_piece NoFrequency code = Number code
+abbrev pub af_piece : Result ℕ NoFrequency → ℕ → Piece
+af_piece (Ok khz) code = Number khz
+af_piece (Err e) code = Number code
 
 abbrev pub codes_line : ℕ → ℕ → List Piece
 codes_line one two =
@@ -105,21 +103,21 @@ abbrev pub sign_piece : Bool → Piece
 sign_piece negative = Word (cond negative (codes " -") (codes " +"))
 
 -- a clock behind its label: UTC day, hour and minute, and the local offset in half hours with its sign
-abbrev pub clock_line : Piece → Held → List Piece
-clock_line label (At clock) =
+abbrev pub clock_line : Piece → Option Clock → List Piece
+clock_line label (Some clock) =
     label ∷ Number clock.day.0 ∷ space ∷ Two clock.hour ∷ colon ∷ Two clock.minute
     ∷ sign_piece clock.negative ∷ Number clock.half ∷ []
-clock_line label Nothing = label ∷ none ∷ []
+clock_line label None = label ∷ none ∷ []
 
 -- a local date and time behind its label, and the end of the line
-abbrev pub local_line : Piece → Local → List Piece
-local_line label (Date at) =
+abbrev pub local_line : Piece → Result DateTime OutOfRange → List Piece
+local_line label (Ok at) =
     label ∷ Number at.year ∷ hyphen ∷ Two at.month ∷ hyphen ∷ Two at.day ∷ space
     ∷ Two at.hour ∷ colon ∷ Two at.minute ∷ end ∷ []
-local_line label OutOfRange = label ∷ none ∷ end ∷ []
+local_line label (Err e) = label ∷ none ∷ end ∷ []
 
 -- what a good group carries; `held` is the clock that its words make, if they do
-abbrev pub content_line : Content → Held → List Piece
+abbrev pub content_line : Content → Option Clock → List Piece
 content_line (Name0A switches address af pair) held = name_line address pair ++ codes_line (first_of af) (second_of af)
 content_line (Name0B switches address pair) held = name_line address pair
 content_line (Text2A flag address first second) held = part_line address flag first ++ pair_line second ++ quote ∷ []
@@ -128,7 +126,7 @@ content_line Clock4A held = clock_line (Word (codes " clock ")) held
 content_line Other held = []
 
 -- how its line ends: a clock with its local date and time
-abbrev pub closing_line : Content → Held → List Piece
+abbrev pub closing_line : Content → Option Clock → List Piece
 closing_line (Name0A switches address af pair) held = end ∷ []
 closing_line (Name0B switches address pair) held = end ∷ []
 closing_line (Text2A flag address first second) held = end ∷ []
@@ -141,7 +139,7 @@ closing_line Other held = end ∷ []
 abbrev pub content_in : Group → Content
 content_in group = content_of (word_of group 1) (word_of group 2) (word_of group 3)
 
-abbrev pub clock_of : Group → Held
+abbrev pub clock_of : Group → Option Clock
 clock_of group = read_of (word_of group 1) (word_of group 2) (word_of group 3)
 
 abbrev pub carried_by : Group → List Piece

@@ -1,14 +1,10 @@
 -- The station record in words: a line for each thing that it holds.
-use Rattle.std.specs.Prelude.{ℕ, zero, suc, List, [], ◌∷◌, ◌++◌, Bool, cond}
+use Rattle.std.specs.Prelude.{ℕ, zero, suc, List, [], ◌∷◌, ◌++◌, Bool, cond, Option, Some, None}
 use Rattle.frequencies.specs.AfList.{held_of, expected_of, at_of}
 use Rattle.frequencies.specs.declared.AfList.{AfList}
 use Rattle.clock.specs.Local.{local_date_of}
 use Rattle.station.specs.Record.{pi_of, pty_of, tp_of, name_characters_of, name_seen_of}
 use Rattle.station.specs.Record.{text_characters_of, text_seen_of, text_flag_of, af_list_of, held_clock_of}
-use Rattle.station.specs.declared.HeldPi.{HeldPi}
-use Rattle.station.specs.declared.HeldPi.TheVariants.{Pi, NoPi}
-use Rattle.station.specs.declared.HeldFlag.{HeldFlag}
-use Rattle.station.specs.declared.HeldFlag.TheVariants.{Flag, NoFlag}
 use Rattle.station.specs.declared.Record.{Record}
 use Rattle.letters.specs.Letters.{codes, decimal_of, character_text, joined}
 use Rattle.telling.specs.Pieces.{Piece, Word, Number, Hex, line_text}
@@ -16,9 +12,9 @@ use Rattle.telling.specs.Lines.{none, bit_piece, clock_line, local_line}
 
 -- ---- PI, PTY, TP and the name
 
-abbrev pub pi_piece : HeldPi → Piece
-pi_piece (Pi pi) = Hex pi
-pi_piece NoPi = none
+abbrev pub pi_piece : Option ℕ → Piece
+pi_piece (Some pi) = Hex pi
+pi_piece None = none
 
 abbrev pub station_line : Record → List Piece
 station_line station =
@@ -49,9 +45,9 @@ text_text station = line_text text_line ++ shown_text (text_characters_of statio
 
 -- ---- the text flag, the AF list and the clock
 
-abbrev pub flag_piece : HeldFlag → Piece
-flag_piece (Flag flag) = bit_piece flag
-flag_piece NoFlag = none
+abbrev pub flag_piece : Option Bool → Piece
+flag_piece (Some flag) = bit_piece flag
+flag_piece None = none
 
 -- how many frequencies are held of those expected
 abbrev pub list_line : Record → List Piece

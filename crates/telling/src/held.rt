@@ -10,7 +10,7 @@ use crate::lines::NONE;
 use crate::pieces::{Piece, put_line};
 use crate::{lines, pieces};
 use frequencies::AfList;
-use station::{HeldFlag, HeldPi, Record, read};
+use station::{Record, read};
 
 // The marks of a pair that was seen, and of one that was not.
 const SEEN: u8 = b'+';
@@ -18,22 +18,22 @@ const SEEN: u8 = b'+';
 const UNSEEN: u8 = b'-';
 
 // The PI, or that there is none.
-fn pi_piece(held: HeldPi) -> Piece
+fn pi_piece(held: Option<u16>) -> Piece
     ensures { piece_of result ≡ pi_piece held }
 {
     match held {
-        HeldPi::Pi(pi) => Piece::Hex(pi),
-        HeldPi::NoPi => NONE,
+        Some(pi) => Piece::Hex(pi),
+        None => NONE,
     }
 }
 
 // The text flag, or that there is none.
-fn flag_piece(held: HeldFlag) -> Piece
+fn flag_piece(held: Option<bool>) -> Piece
     ensures { piece_of result ≡ flag_piece held }
 {
     match held {
-        HeldFlag::Flag(flag) => lines::bit(flag),
-        HeldFlag::NoFlag => NONE,
+        Some(flag) => lines::bit(flag),
+        None => NONE,
     }
 }
 

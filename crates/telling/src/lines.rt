@@ -10,8 +10,8 @@ ghost use Rattle.telling.specs.Lines.{content_line, closing_line};
 ghost use Rattle.telling.specs.Lines.{clock_of, group_text};
 
 use crate::pieces::{Piece, put_line};
-use clock::{Held, Local};
-use frequencies::FrequencyAnswer;
+use clock::{Clock, DateTime, OutOfRange};
+use frequencies::NoFrequency;
 use groups::Group;
 use groups::fields::Content;
 
@@ -119,21 +119,21 @@ fn name(address: u8, pair: u16) -> [Piece; 6]
 }
 
 // The label of an AF code, and its frequency or itself.
-fn af_label(answer: FrequencyAnswer) -> Piece
+fn af_label(answer: Result<u32, NoFrequency>) -> Piece
     ensures { piece_of result ≡ af_label answer }
 {
     match answer {
-        FrequencyAnswer::Khz(_) => SPACE,
-        FrequencyAnswer::NoFrequency => Piece::Word(b" code "),
+        Ok(_) => SPACE,
+        Err(NoFrequency) => Piece::Word(b" code "),
     }
 }
 
-fn af_piece(answer: FrequencyAnswer, code: u8) -> Piece
+fn af_piece(answer: Result<u32, NoFrequency>, code: u8) -> Piece
     ensures { piece_of result ≡ af_piece answer code }
 {
     match answer {
-        FrequencyAnswer::Khz(khz) => Piece::Number(u64::from(khz)),
-        FrequencyAnswer::NoFrequency => Piece::Number(u64::from(code)),
+        Ok(khz) => Piece::Number(u64::from(khz)),
+        Err(NoFrequency) => Piece::Number(u64::from(code)),
     }
 }
 
@@ -175,13 +175,13 @@ fn sign(negative: bool) -> Piece
 }
 
 // A clock behind its label, or that there is none.
-pub(crate) fn put_clock(label: Piece, held: Held, out: &mut [u8], at: usize) -> usize
+pub(crate) fn put_clock(label: Piece, held: Option<Clock>, out: &mut [u8], at: usize) -> usize
     requires { at + 160 ≤ length out.old }
     ensures { Wrote out.old at (line_text (clock_line (piece_of label) held)) out.new result
         × (result ≤ at + 160) }
 {
     match held {
-        Held::At(clock) => {
+        Some(clock) => {
             let line = [
                 label,
                 Piece::Number(u64::from(clock.day.0)),
@@ -194,18 +194,18 @@ pub(crate) fn put_clock(label: Piece, held: Held, out: &mut [u8], at: usize) -> 
             ];
             put_line(&line, out, at)
         }
-        Held::Nothing => put_line(&[label, NONE], out, at),
+        None => put_line(&[label, NONE], out, at),
     }
 }
 
 // A local date and time behind its label, or that there is none; the line ends with it.
-pub(crate) fn put_local(label: Piece, local: Local, out: &mut [u8], at: usize) -> usize
+pub(crate) fn put_local(label: Piece, local: Result<DateTime, OutOfRange>, out: &mut [u8], at: usize) -> usize
     requires { at + 220 ≤ length out.old }
     ensures { Wrote out.old at (line_text (local_line (piece_of label) local)) out.new result
         × (result ≤ at + 220) }
 {
     match local {
-        Local::Date(date) => {
+        Ok(date) => {
             let line = [
                 label,
                 Piece::Number(u64::from(date.year)),
@@ -221,12 +221,12 @@ pub(crate) fn put_local(label: Piece, local: Local, out: &mut [u8], at: usize) -
             ];
             put_line(&line, out, at)
         }
-        Local::OutOfRange => put_line(&[label, NONE, END], out, at),
+        Err(OutOfRange) => put_line(&[label, NONE, END], out, at),
     }
 }
 
 // What a group's content says; `held` is the clock that its words make, if they do.
-fn put_content(content: Content, held: Held, out: &mut [u8], at: usize) -> usize
+fn put_content(content: Content, held: Option<Clock>, out: &mut [u8], at: usize) -> usize
     requires { at + 220 ≤ length out.old }
     ensures { Wrote out.old at (line_text (content_line content held)) out.new result × (result ≤ at + 220) }
 {
@@ -265,7 +265,7 @@ fn put_content(content: Content, held: Held, out: &mut [u8], at: usize) -> usize
 }
 
 // How the line of a group's content ends.
-fn put_closing(content: Content, held: Held, out: &mut [u8], at: usize) -> usize
+fn put_closing(content: Content, held: Option<Clock>, out: &mut [u8], at: usize) -> usize
     requires { at + 220 ≤ length out.old }
     ensures { Wrote out.old at (line_text (closing_line content held)) out.new result × (result ≤ at + 220) }
 {
@@ -276,7 +276,7 @@ fn put_closing(content: Content, held: Held, out: &mut [u8], at: usize) -> usize
 }
 
 // The clock that a group's words make, if they do.
-fn clock_of(group: Group) -> Held
+fn clock_of(group: Group) -> Option<Clock>
     ensures { result ≡ clock_of group }
 {
     clock::read(

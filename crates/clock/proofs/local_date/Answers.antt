@@ -1,12 +1,14 @@
 -- `clock::local_date` meets its contract: the tests of the two days say which answer is given.
 use Prim.Native.Nat.{ℕ, ◌%◌, ◌<◌}
-use mathlib.Core.Path.{◌≡◌, sym, ap, ◌∙◌}
-use mathlib.Core.Bool.{Bool}
+use mathlib.Core.Path.{◌≡◌, refl, sym, ap, ◌∙◌}
+use mathlib.Core.Bool.{Bool, false≢true}
 use native.Mathlib.Omega.{arith}
+use Rattle.std.specs.Prelude.{Result, Ok, Err, IsErr}
 use Rattle.clock.specs.declared.Clock.{Clock}
+use Rattle.clock.specs.declared.OutOfRange.{OutOfRange}
+use Rattle.clock.specs.Words.{out_of_range}
 use Rattle.clock.specs.declared.DateTime.{DateTime}
 use Rattle.clock.specs.declared.LocalTime.{LocalTime}
-use Rattle.clock.specs.declared.Local.{Local}
 use Rattle.clock.specs.declared.calendar.CalendarDate.{CalendarDate}
 use Rattle.clock.specs.Range.{in_days}
 use Rattle.clock.specs.Calendar.{date_of, weekday_of}
@@ -35,14 +37,23 @@ shown : (clock : Clock) {local : LocalTime} {date : CalendarDate} {weekday : ℕ
     at ≡ local_shown (local_time_of clock)
 shown clock by-time by-date by-weekday by_parts = cc
 
-pub returns-in_default : goal.returns-in_default
-returns-in_default c = date_said _ _ (date-none ∙ ap local_date_of (sym c.in_default.is))
+-- A refusal says no more than that it is one.
+refused : (r : Result DateTime OutOfRange) → IsErr r → r ≡ Err out_of_range
+refused (Err e) is = refl
+refused (Ok at) is = absurd (false≢true is)
+
+pub returns-in_err-clock : goal.returns-in_err-clock
+returns-in_err-clock c =
+    date_said _ _
+    (refused _ c.from_residual.ensures.0
+    ∙ date-none
+    ∙ ap local_date_of (sym c.in_err-clock.ensures.ok_part))
 
 pub returns-then-not-in_days : goal.returns-then-not-in_days
 returns-then-not-in_days c =
     date_said _ _
     (date_utc_out _ (sym c.in_days.ensures ∙ c.if-not-in_days.true)
-    ∙ ap local_date_of (sym c.in-At.is))
+    ∙ ap local_date_of (sym c.in_ok-clock.ensures.ok_part))
 
 pub local_time-local-requires : goal.local_time-local-requires
 local_time-local-requires c = in_days_true _ (sym c.in_days.ensures ∙ c.if-not-in_days.false)
@@ -54,7 +65,7 @@ returns-then-not-in_days-2 c =
     (ap day_test (sym c.local_time-local.ensures)
     ∙ sym c.in_days-2.ensures
     ∙ c.if-not-in_days-2.true)
-    ∙ ap local_date_of (sym c.in-At.is))
+    ∙ ap local_date_of (sym c.in_ok-clock.ensures.ok_part))
 
 pub date-date-requires : goal.date-date-requires
 date-date-requires c = in_days_true _ (sym c.in_days-2.ensures ∙ c.if-not-in_days-2.false)
@@ -65,15 +76,13 @@ date_time-requires c = within-a-day _ _ c.local_time-local.ensures
 pub returns : goal.returns
 returns c =
     date_said _ _
-    (ap Local.Date
+    (ap Ok
     (shown _ c.local_time-local.ensures
     c.date-date.ensures c.weekday-weekday.ensures
     c.date_time.ensures)
     ∙ date_at _
-    (sym c.in_days.ensures
-    ∙ c.if-not-in_days.false)
+    (sym c.in_days.ensures ∙ c.if-not-in_days.false)
     (ap day_test (sym c.local_time-local.ensures)
     ∙ sym c.in_days-2.ensures
     ∙ c.if-not-in_days-2.false)
-    ∙ ap local_date_of
-    (sym c.in-At.is))
+    ∙ ap local_date_of (sym c.in_ok-clock.ensures.ok_part))

@@ -4,5 +4,5 @@ use Rattle.clock.proofs.shifted.Goals as goal
 pub returns-then-negative : goal.returns-then-negative
 returns-then-negative c = rw c.if-negative.true
 
-pub returns : goal.returns
-returns c = rw c.if-negative.false
+pub returns-else-negative : goal.returns-else-negative
+returns-else-negative c = rw c.if-negative.false

@@ -1,8 +1,7 @@
 -- `clock::word3` meets its contract: it is the sum of the fields at their places.
-use mathlib.Core.Path.{refl}
 use Rattle.clock.specs.Words.{word3_of}
 use Rattle.clock.proofs.word3.Goals as goal
 
 pub returns : goal.returns
 unfolding word3_of
-returns c = refl
+returns c = rw c.from.ensures

@@ -9,7 +9,7 @@ pub returns-in-224 : goal.returns-in-224
 returns-in-224 c = simp (c.in-224.is, none-code)
 
 pub returns-in-1-to-204 : goal.returns-in-1-to-204
-returns-in-1-to-204 c = sym (frequency_code_lem c.args.code (omega arith) (omega arith))
+returns-in-1-to-204 c = rw c.from.ensures (sym (frequency_code_lem c.args.code (omega arith) (omega arith)))
 
 pub returns-in-225-to-249 : goal.returns-in-225-to-249
 returns-in-225-to-249 c = sym (count_code c.args.code (omega arith) (omega arith))
