@@ -4,7 +4,7 @@ use mathlib.Core.Path.{◌≡◌, sym, ap, ◌∙◌}
 use mathlib.Core.List.{List, [], ◌∷◌, ◌++◌, append_assoc, append-nil}
 use native.Mathlib.Omega.{arith}
 use lib.ListN.{length, get_or, take, drop, length-append, length-drop, take-append-drop}
-use lib.Seq.{take_at, drop-append-add, drop-drop, length-take-le, take_all}
+use lib.Seq.{take_at, drop-append-add, drop-drop, length-take-le}
 use Rattle.letters.specs.Letters.{joined, written, Wrote}
 
 module _ (out : List ℕ) (at : ℕ) where
@@ -51,6 +51,11 @@ module _ (out : List ℕ) (at : ℕ) where
         to = two.to ∙ rw (one.to, length-append) (omega arith);
       }
 
+  -- the buffer up to the end of the text
+  pub wrote_take : {text after : List ℕ} {end : ℕ} → at ≤ length out → Wrote out at text after end
+      → take end after ≡ take at out ++ text
+  wrote_take {text} h wrote = rw (wrote.over, wrote.to) (take-written text h)
+
   -- nothing
   pub wrote_none : Wrote out at [] out at
   unfolding written
@@ -60,32 +65,13 @@ module _ (out : List ℕ) (at : ℕ) where
         to = omega arith;
       }
 
--- ---- a loop that writes the text of each element of a list
+-- ---- the texts of the elements of a list
 
 -- the texts of the first elements, with the next
-joined_next : {A : Type 0} (text : A → List ℕ) (xs : List A) (i : ℕ) (d : A) → i < length xs
+pub joined_next : {A : Type 0} (text : A → List ℕ) (xs : List A) (i : ℕ) (d : A) → i < length xs
     → joined text (take (i + 1) xs) ≡ joined text (take i xs) ++ text (get_or xs i d)
 joined_next text [] i d h = absurd (omega arith)
 joined_next text (x ∷ xs) zero d h = rw append-nil
 joined_next text (x ∷ xs) (suc i) d h =
     let e : suc i + 1 ≡ suc (i + 1) = omega arith in
     rw (e, append_assoc, joined_next text xs i d (omega arith))
-
-module _ {A : Type 0} (text : A → List ℕ) (xs : List A) (out : List ℕ) (at : ℕ) where
-  -- before turn i the texts of the first i stand in the buffer
-  pub Turn : ℕ → List ℕ → ℕ → Type 0
-  Turn i after end = Wrote out at (joined text (take i xs)) after end
-
-  pub turn_first : Turn 0 out at
-  unfolding Turn
-  turn_first = wrote_none out at
-
-  pub turn_next : {i : ℕ} {mid after : List ℕ} {m r : ℕ} (d : A) → at ≤ length out → i < length xs → Turn i mid m
-      → Wrote mid m (text (get_or xs i d)) after r → Turn (i + 1) after r
-  unfolding Turn
-  turn_next {i} d room h one two = rw (joined_next text xs i d h) (wrote_two out at room one two)
-
-  pub turn_last : {i : ℕ} {after : List ℕ} {r : ℕ} → length xs ≤ i → Turn i after r
-      → Wrote out at (joined text xs) after r
-  unfolding Turn
-  turn_last {i} h one = rw (take_all i xs h) at one

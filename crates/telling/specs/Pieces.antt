@@ -38,3 +38,12 @@ piece_of told.Silent = Silent
 
 abbrev pub line_of : List Told → List Piece
 line_of line = map piece_of line
+
+-- how many characters a piece has at most
+abbrev pub most_of : Told → ℕ
+most_of (told.Word word) = 20
+most_of (told.Number number) = 20
+most_of (told.Two number) = 2
+most_of (told.Hex word) = 4
+most_of (told.Character character) = 4
+most_of told.Silent = 0

@@ -1,21 +1,16 @@
 // The station record in words.
-ghost use Rattle.std.specs.Prelude.{◌≡◌, [], ◌∷◌, ◌++◌, ◌+◌, ◌*◌, ◌≤◌, length};
+ghost use Rattle.std.specs.Prelude.{◌≡◌, [], ◌+◌, ◌*◌, ◌++◌, ◌≤◌, length};
 ghost use Rattle.frequencies.specs.AfList.{held_of};
-ghost use Rattle.letters.specs.Letters.{Wrote, joined, decimal_of, character_text};
-ghost use Rattle.telling.specs.Pieces.{piece_of, line_of, line_text};
+ghost use Rattle.letters.specs.Letters.{joined, character_text};
+ghost use Rattle.telling.specs.Pieces.{piece_of, line_of, most_of, piece_text, line_text};
 ghost use Rattle.telling.specs.Station.{pi_piece, station_line, mark_text, shown_text, flag_piece};
 ghost use Rattle.telling.specs.Station.{list_line, frequencies_to, name_text, text_text, rest_text, station_text};
 
-use crate::lines::NONE;
-use crate::pieces::{Piece, put_line};
-use crate::{lines, pieces};
+use crate::lines::{NONE, SPACE};
+use crate::pieces::{Page, Piece};
+use crate::{STATION_ROOM, lines};
 use frequencies::AfList;
 use station::{Record, read};
-
-// The marks of a pair that was seen, and of one that was not.
-const SEEN: u8 = b'+';
-
-const UNSEEN: u8 = b'-';
 
 // The PI, or that there is none.
 fn pi_piece(held: Option<u16>) -> Piece
@@ -68,115 +63,106 @@ fn list_line(station: Record) -> [Piece; 6]
 }
 
 // Characters, one behind the other.
-fn put_characters(characters: &[u8], out: &mut [u8], at: usize) -> usize
-    requires { at + 4 * length characters.now ≤ length out.old }
-    ensures { Wrote out.old at (joined character_text characters.now) out.new result
-        × (result ≤ at + 4 * length characters.now) }
+fn put_characters(characters: &[u8], page: &mut Page<STATION_ROOM>)
+    requires { length page.old + 4 * length characters.now ≤ 7919 }
+    ensures text { page.new ≡ page.old ++ joined character_text characters.now }
+    ensures most { length page.new ≤ length page.old + 4 * length characters.now }
 {
-    let mut next = at;
     for character in characters {
-        next = letters::put_character(*character, out, next);
+        page.put(Piece::Character(*character));
     }
-    next
 }
 
-// The mark of a pair.
-fn mark(seen: bool) -> u8
-    ensures { result ∷ [] ≡ mark_text seen }
+// The mark of a pair: whether it was seen.
+fn mark(seen: bool) -> Piece
+    ensures text { piece_text (piece_of result) ≡ mark_text seen }
+    ensures most { most_of result ≡ 4 }
 {
-    if seen { SEEN } else { UNSEEN }
+    if seen {
+        Piece::Character(b'+')
+    } else {
+        Piece::Character(b'-')
+    }
 }
 
 // The marks of pairs, one behind the other.
-fn put_marks(seen: &[bool], out: &mut [u8], at: usize) -> usize
-    requires { at + length seen.now ≤ length out.old }
-    ensures { Wrote out.old at (joined mark_text seen.now) out.new result
-        × (result ≤ at + length seen.now) }
+fn put_marks(seen: &[bool], page: &mut Page<STATION_ROOM>)
+    requires { length page.old + 4 * length seen.now ≤ 7919 }
+    ensures text { page.new ≡ page.old ++ joined mark_text seen.now }
+    ensures most { length page.new ≤ length page.old + 4 * length seen.now }
 {
-    let mut next = at;
     for pair in seen {
-        next = letters::put_byte(mark(*pair), out, next);
+        page.put(mark(*pair));
     }
-    next
 }
 
 // A line of pieces, characters behind it, and the marks of their pairs.
-fn put_shown(line: &[Piece], characters: &[u8], seen: &[bool], out: &mut [u8], at: usize) -> usize
-    requires { (at + 4 * length characters.now + length seen.now + 640 ≤ length out.old)
-        × (length line.now ≤ 16) }
-    ensures { Wrote out.old at
-        (line_text (line_of line.now) ++ shown_text characters.now seen.now) out.new result
-        × (result ≤ at + 4 * length characters.now + length seen.now + 640) }
+fn put_shown(line: &[Piece], characters: &[u8], seen: &[bool], page: &mut Page<STATION_ROOM>)
+    requires { length page.old + 20 * length line.now + 4 * length characters.now + 20 + 4 * length seen.now ≤ 7919 }
+    ensures text { page.new ≡ page.old ++ (line_text (line_of line.now) ++ shown_text characters.now seen.now) }
+    ensures most { length page.new
+        ≤ length page.old + 20 * length line.now + 4 * length characters.now + 20 + 4 * length seen.now }
 {
-    let one = put_line(line, out, at);
-    let two = put_characters(characters, out, one);
-    let three = put_line(&[Piece::Word(b"\" seen ")], out, two);
-    put_marks(seen, out, three)
+    page.put_line(line);
+    put_characters(characters, page);
+    page.put_line(&[Piece::Word(b"\" seen ")]);
+    put_marks(seen, page);
 }
 
 // PI, PTY, TP and the name.
-fn put_name(station: Record, out: &mut [u8], at: usize) -> usize
-    requires { at + 676 ≤ length out.old }
-    ensures { Wrote out.old at (name_text station) out.new result × (result ≤ at + 676) }
+fn put_name(station: Record, page: &mut Page<STATION_ROOM>)
+    requires { page.old ≡ [] }
+    ensures text { page.new ≡ name_text station }
+    ensures most { length page.new ≤ 208 }
 {
     let line = station_line(station);
     let characters = read::name_characters(station);
     let seen = read::name_seen(station);
-    put_shown(&line, &characters, &seen, out, at)
+    put_shown(&line, &characters, &seen, page);
 }
 
 // The text.
-fn put_text(station: Record, out: &mut [u8], at: usize) -> usize
-    requires { at + 928 ≤ length out.old }
-    ensures { Wrote out.old at (text_text station) out.new result × (result ≤ at + 928) }
+fn put_text(station: Record, page: &mut Page<STATION_ROOM>)
+    requires { length page.old ≤ 208 }
+    ensures text { page.new ≡ page.old ++ text_text station }
+    ensures most { length page.new ≤ length page.old + 424 }
 {
     let line = [Piece::Word(b"\ntext \"")];
     let characters = read::text_characters(station);
     let seen = read::text_seen(station);
-    put_shown(&line, &characters, &seen, out, at)
+    put_shown(&line, &characters, &seen, page);
 }
 
-// A frequency behind a space.
-fn put_frequency(khz: u32, out: &mut [u8], at: usize) -> usize
-    requires { at + 21 ≤ length out.old }
-    ensures { Wrote out.old at (32 ∷ decimal_of khz) out.new result × (result ≤ at + 21) }
+// The frequencies held, each behind a space.
+fn put_frequencies(list: AfList, page: &mut Page<STATION_ROOM>)
+    requires { length page.old + 6120 ≤ 7919 }
+    ensures text { page.new ≡ page.old ++ frequencies_to list (held_of list) }
+    ensures most { length page.new ≤ length page.old + 6120 }
 {
-    let next = letters::put_byte(b' ', out, at);
-    pieces::put_number(u64::from(khz), out, next)
-}
-
-// The frequencies held.
-fn put_frequencies(list: AfList, out: &mut [u8], at: usize) -> usize
-    requires { at + 5355 ≤ length out.old }
-    ensures { Wrote out.old at (frequencies_to list (held_of list)) out.new result
-        × (result ≤ at + 5355) }
-{
-    let mut next = at;
     for i in 0..usize::from(frequencies::held(list)) {
-        next = put_frequency(frequencies::at(list, i), out, next);
+        page.put(SPACE);
+        page.put(Piece::Number(u64::from(frequencies::at(list, i))));
     }
-    next
 }
 
 // The text flag, the AF list, the clock, and the local date and time.
-fn put_rest(station: Record, out: &mut [u8], at: usize) -> usize
-    requires { at + 6315 ≤ length out.old }
-    ensures { Wrote out.old at (rest_text station) out.new result × (result ≤ at + 6315) }
+fn put_rest(station: Record, page: &mut Page<STATION_ROOM>)
+    requires { length page.old ≤ 632 }
+    ensures { page.new ≡ page.old ++ rest_text station }
 {
-    let one = put_line(&list_line(station), out, at);
-    let two = put_frequencies(read::af_list(station), out, one);
+    page.put_line(&list_line(station));
+    put_frequencies(read::af_list(station), page);
     let held = read::held_clock(station);
-    let three = lines::put_clock(Piece::Word(b"\nclock "), held, out, two);
-    let local = clock::local_date(held);
-    lines::put_local(Piece::Word(b"\nlocal "), local, out, three)
+    lines::put_clock(Piece::Word(b"\nclock "), held, page);
+    lines::put_local(Piece::Word(b"\nlocal "), clock::local_date(held), page);
 }
 
-// All that is held of a station, at the front of a buffer that has room for it.
-pub(crate) fn put_station(station: Record, out: &mut [u8]) -> usize
-    requires { 7919 ≤ length out.old }
-    ensures { Wrote out.old 0 (station_text station) out.new result × (result ≤ 7919) }
+// All that is held of a station, on a fresh page.
+pub(crate) fn put_station(station: Record, page: &mut Page<STATION_ROOM>)
+    requires { page.old ≡ [] }
+    ensures { page.new ≡ station_text station }
 {
-    let one = put_name(station, out, 0);
-    let two = put_text(station, out, one);
-    put_rest(station, out, two)
+    put_name(station, page);
+    put_text(station, page);
+    put_rest(station, page);
 }

@@ -18,11 +18,11 @@ use counts::Counts;
 use groups::Group;
 use letters::TooShort;
 use lines::END;
-use pieces::Piece;
+use pieces::{Page, Piece};
 use station::Record;
 
 // Room for any line of pieces, for a group's line, and for all that is held of a station: a buffer with so much is
-// never too short. A text is written into one of our own first, so that a buffer that is too short stays as it is.
+// never too short. A text is written on a page of our own first, so that a buffer that is too short stays as it is.
 pub const LINE_ROOM: usize = 320;
 
 pub const GROUP_ROOM: usize = 1024;
@@ -34,9 +34,9 @@ fn line_told(line: &[Piece], out: &mut [u8]) -> Result<usize, TooShort>
     requires { length line.now ≤ 16 }
     ensures { TellsWithin line_room (line_text (line_of line.now)) out.old result out.new }
 {
-    let mut own = [0u8; LINE_ROOM];
-    let length = pieces::put_line(line, &mut own, 0);
-    letters::tell(&own[..length], out)
+    let mut page = Page::<LINE_ROOM>::new();
+    page.put_line(line);
+    page.tell(out)
 }
 
 // That lock was taken with a bit; the first bit of a recording is bit 0.
@@ -57,18 +57,18 @@ pub fn lost(bit: u64, out: &mut [u8]) -> Result<usize, TooShort>
 pub fn group(number: u64, group: Group, out: &mut [u8]) -> Result<usize, TooShort>
     ensures { TellsWithin group_room (group_text number group) out.old result out.new }
 {
-    let mut own = [0u8; GROUP_ROOM];
-    let length = lines::put_group(number, group, &mut own);
-    letters::tell(&own[..length], out)
+    let mut page = Page::<GROUP_ROOM>::new();
+    lines::put_group(number, group, &mut page);
+    page.tell(out)
 }
 
 // All that is held of a station.
 pub fn record_lines(station: Record, out: &mut [u8]) -> Result<usize, TooShort>
     ensures { TellsWithin station_room (station_text station) out.old result out.new }
 {
-    let mut own = [0u8; STATION_ROOM];
-    let length = held::put_station(station, &mut own);
-    letters::tell(&own[..length], out)
+    let mut page = Page::<STATION_ROOM>::new();
+    held::put_station(station, &mut page);
+    page.tell(out)
 }
 
 // The counts of a recording.

@@ -1,7 +1,6 @@
 // The lines of a recording, as pieces: what is told of a lock, of a loss and of a group.
-ghost use Rattle.std.specs.Prelude.{◌≡◌, ◌+◌, ◌≤◌, length};
+ghost use Rattle.std.specs.Prelude.{◌≡◌, [], ◌+◌, ◌++◌, ◌≤◌, length};
 ghost use Rattle.groups.specs.Content.{first_of, second_of};
-ghost use Rattle.letters.specs.Letters.{Wrote};
 ghost use Rattle.telling.specs.Pieces.{Character, piece_of, line_of, line_text};
 ghost use Rattle.telling.specs.Lines.{bit_piece, word_piece, type_piece, version_piece, head_line};
 ghost use Rattle.telling.specs.Lines.{name_line, af_label, af_piece, codes_line, part_line};
@@ -9,7 +8,8 @@ ghost use Rattle.telling.specs.Lines.{sign_piece, clock_line, local_line};
 ghost use Rattle.telling.specs.Lines.{content_line, closing_line};
 ghost use Rattle.telling.specs.Lines.{clock_of, group_text};
 
-use crate::pieces::{Piece, put_line};
+use crate::GROUP_ROOM;
+use crate::pieces::{Page, Piece};
 use clock::{Clock, DateTime, OutOfRange};
 use frequencies::NoFrequency;
 use groups::Group;
@@ -175,60 +175,55 @@ fn sign(negative: bool) -> Piece
 }
 
 // A clock behind its label, or that there is none.
-pub(crate) fn put_clock(label: Piece, held: Option<Clock>, out: &mut [u8], at: usize) -> usize
-    requires { at + 160 ≤ length out.old }
-    ensures { Wrote out.old at (line_text (clock_line (piece_of label) held)) out.new result
-        × (result ≤ at + 160) }
+pub(crate) fn put_clock<const ROOM: usize>(label: Piece, held: Option<Clock>, page: &mut Page<ROOM>)
+    requires { length page.old + 160 ≤ ROOM }
+    ensures text { page.new ≡ page.old ++ line_text (clock_line (piece_of label) held) }
+    ensures most { length page.new ≤ length page.old + 160 }
 {
     match held {
-        Some(clock) => {
-            let line = [
-                label,
-                Piece::Number(u64::from(clock.day.0)),
-                SPACE,
-                Piece::Two(clock.hour),
-                COLON,
-                Piece::Two(clock.minute),
-                sign(clock.negative),
-                Piece::Number(u64::from(clock.half)),
-            ];
-            put_line(&line, out, at)
-        }
-        None => put_line(&[label, NONE], out, at),
+        Some(clock) => page.put_line(&[
+            label,
+            Piece::Number(u64::from(clock.day.0)),
+            SPACE,
+            Piece::Two(clock.hour),
+            COLON,
+            Piece::Two(clock.minute),
+            sign(clock.negative),
+            Piece::Number(u64::from(clock.half)),
+        ]),
+        None => page.put_line(&[label, NONE]),
     }
 }
 
 // A local date and time behind its label, or that there is none; the line ends with it.
-pub(crate) fn put_local(label: Piece, local: Result<DateTime, OutOfRange>, out: &mut [u8], at: usize) -> usize
-    requires { at + 220 ≤ length out.old }
-    ensures { Wrote out.old at (line_text (local_line (piece_of label) local)) out.new result
-        × (result ≤ at + 220) }
+pub(crate) fn put_local<const ROOM: usize>(label: Piece, local: Result<DateTime, OutOfRange>, page: &mut Page<ROOM>)
+    requires { length page.old + 220 ≤ ROOM }
+    ensures text { page.new ≡ page.old ++ line_text (local_line (piece_of label) local) }
+    ensures most { length page.new ≤ length page.old + 220 }
 {
     match local {
-        Ok(date) => {
-            let line = [
-                label,
-                Piece::Number(u64::from(date.year)),
-                HYPHEN,
-                Piece::Two(date.month),
-                HYPHEN,
-                Piece::Two(date.day),
-                SPACE,
-                Piece::Two(date.hour),
-                COLON,
-                Piece::Two(date.minute),
-                END,
-            ];
-            put_line(&line, out, at)
-        }
-        Err(OutOfRange) => put_line(&[label, NONE, END], out, at),
+        Ok(date) => page.put_line(&[
+            label,
+            Piece::Number(u64::from(date.year)),
+            HYPHEN,
+            Piece::Two(date.month),
+            HYPHEN,
+            Piece::Two(date.day),
+            SPACE,
+            Piece::Two(date.hour),
+            COLON,
+            Piece::Two(date.minute),
+            END,
+        ]),
+        Err(OutOfRange) => page.put_line(&[label, NONE, END]),
     }
 }
 
 // What a group's content says; `held` is the clock that its words make, if they do.
-fn put_content(content: Content, held: Option<Clock>, out: &mut [u8], at: usize) -> usize
-    requires { at + 220 ≤ length out.old }
-    ensures { Wrote out.old at (line_text (content_line content held)) out.new result × (result ≤ at + 220) }
+fn put_content(content: Content, held: Option<Clock>, page: &mut Page<GROUP_ROOM>)
+    requires { length page.old + 220 ≤ 1024 }
+    ensures text { page.new ≡ page.old ++ line_text (content_line content held) }
+    ensures most { length page.new ≤ length page.old + 220 }
 {
     match content {
         Content::Name0A {
@@ -237,41 +232,40 @@ fn put_content(content: Content, held: Option<Clock>, out: &mut [u8], at: usize)
             pair,
             ..
         } => {
-            let next = put_line(&name(address, pair), out, at);
-            let codes = codes(groups::fields::first(af), groups::fields::second(af));
-            put_line(&codes, out, next)
+            page.put_line(&name(address, pair));
+            page.put_line(&codes(groups::fields::first(af), groups::fields::second(af)));
         }
-        Content::Name0B { address, pair, .. } => put_line(&name(address, pair), out, at),
+        Content::Name0B { address, pair, .. } => page.put_line(&name(address, pair)),
         Content::Text2A {
             flag,
             address,
             first: one,
             second: two,
         } => {
-            let next = put_line(&part(address, flag, one), out, at);
-            put_line(&[first(two), second(two), QUOTE_CLOSES], out, next)
+            page.put_line(&part(address, flag, one));
+            page.put_line(&[first(two), second(two), QUOTE_CLOSES]);
         }
         Content::Text2B {
             flag,
             address,
             pair,
         } => {
-            let next = put_line(&part(address, flag, pair), out, at);
-            put_line(&[QUOTE_CLOSES], out, next)
+            page.put_line(&part(address, flag, pair));
+            page.put_line(&[QUOTE_CLOSES]);
         }
-        Content::Clock4A => put_clock(Piece::Word(b" clock "), held, out, at),
-        Content::Other => at,
+        Content::Clock4A => put_clock(Piece::Word(b" clock "), held, page),
+        Content::Other => {}
     }
 }
 
 // How the line of a group's content ends.
-fn put_closing(content: Content, held: Option<Clock>, out: &mut [u8], at: usize) -> usize
-    requires { at + 220 ≤ length out.old }
-    ensures { Wrote out.old at (line_text (closing_line content held)) out.new result × (result ≤ at + 220) }
+fn put_closing(content: Content, held: Option<Clock>, page: &mut Page<GROUP_ROOM>)
+    requires { length page.old + 220 ≤ 1024 }
+    ensures text { page.new ≡ page.old ++ line_text (closing_line content held) }
 {
     match content {
-        Content::Clock4A => put_local(Piece::Word(b" local "), clock::local_date(held), out, at),
-        _ => put_line(&[END], out, at),
+        Content::Clock4A => put_local(Piece::Word(b" local "), clock::local_date(held), page),
+        _ => page.put_line(&[END]),
     }
 }
 
@@ -286,17 +280,18 @@ fn clock_of(group: Group) -> Option<Clock>
     )
 }
 
-// The line of a group at the front of a buffer that has room for it: what it carries is told where all blocks are good.
-pub(crate) fn put_group(number: u64, group: Group, out: &mut [u8]) -> usize
-    requires { 1024 ≤ length out.old }
-    ensures { Wrote out.old 0 (group_text number group) out.new result × (result ≤ 1024) }
+// The line of a group on a fresh page: what it carries is told where all blocks are good.
+pub(crate) fn put_group(number: u64, group: Group, page: &mut Page<GROUP_ROOM>)
+    requires { page.old ≡ [] }
+    ensures { page.new ≡ group_text number group }
 {
-    let one = put_line(&head(number, group), out, 0);
+    page.put_line(&head(number, group));
     if groups::is_all_good(group) {
         let content = groups::fields::content_of(group);
         let held = clock_of(group);
-        let two = put_content(content, held, out, one);
-        return put_closing(content, held, out, two);
+        put_content(content, held, page);
+        put_closing(content, held, page);
+    } else {
+        page.put_line(&[END]);
     }
-    put_line(&[END], out, one)
 }

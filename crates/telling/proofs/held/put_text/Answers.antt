@@ -1,11 +1,9 @@
--- `telling::held::put_text` meets its promise: its line, characters and marks.
+-- `telling::held::put_text` meets its promise: its texts, one behind the other.
 use native.Mathlib.Omega.{arith}
+use Rattle.std.proofs.lemmas.Grind.{common_steps}
 use Rattle.telling.specs.Station.{text_text}
 use Rattle.telling.proofs.held.put_text.Goals as goal
 
-pub returns : goal.returns
+pub returns-clause-text : goal.returns-clause-text
 unfolding text_text
-returns c = (
-  rw (c.text_characters-characters.ensures, c.text_seen-seen.ensures) at c.put_shown.ensures.0,
-  omega arith,
-)
+returns-clause-text c = grind (arith, common_steps)
