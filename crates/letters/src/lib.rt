@@ -32,7 +32,8 @@ pub fn written(told: Result<usize, TooShort>) -> usize
     told.unwrap_or(0)
 }
 
-// A text from byte `at` on, and the place behind it. Where it has no room nothing is written, and the place stays.
+// A text from byte `at` on, and the place behind it. Where it has no room nothing is written, and the place stays. The
+// buffer and the place go in side by side, and not as one struct: so `NoSecondAnswer` of the claims states each of these.
 pub fn put(text: &[u8], out: &mut [u8], at: usize) -> usize
     ensures { Put text.now out.old at out.new result }
 {
