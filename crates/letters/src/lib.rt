@@ -57,7 +57,7 @@ pub fn put_number(number: u64, out: &mut [u8], at: usize) -> usize
     put(Buffer::new().format(number).as_bytes(), out, at)
 }
 
-// The letters of a word: the bytes of its number from the first that is not 0 on, or the last.
+// The letters of a word that is held as a number: its bytes from the first that is not 0 on, or the last.
 pub fn put_word(letters: u64, out: &mut [u8], at: usize) -> usize
     ensures { Put (letters_of letters) out.old at out.new result }
 {
