@@ -70,7 +70,8 @@ pub fn marked(sheet: &[u8], input: &[u8]) -> MarkAnswer
     }
 }
 
-// The line of that answer.
+// The line of that answer. It is put together in a buffer of our own, with its length beside it, as the texts below are: a
+// page that grows, as `telling` has one, asks that what it is given has room, and no public function asks anything.
 pub fn mark_line(sheet: &[u8], input: &[u8], out: &mut [u8]) -> Result<usize, TooShort>
     ensures { TellsWithin line_room (mark_line sheet.now input.now)
         out.old result out.new }
@@ -80,7 +81,8 @@ pub fn mark_line(sheet: &[u8], input: &[u8], out: &mut [u8]) -> Result<usize, To
     letters::tell(&own[..length], out)
 }
 
-// The same in a buffer that always has room for it, and how many characters it has.
+// The same in a buffer that always has room for it, and how many characters it has; so for the texts below, a line each,
+// since the claims state each of the three.
 pub fn whole_line(sheet: &[u8], input: &[u8], out: &mut [u8; LINE_ROOM]) -> usize
     ensures { Wrote out.old 0 (mark_line sheet.now input.now) out.new result
         × (result ≤ length out.new) }

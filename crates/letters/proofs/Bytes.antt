@@ -16,7 +16,8 @@ use Rattle.letters.proofs.Digits.{digits_small, digits_large}
 byte_before : (k n : ℕ) → byte_at (suc k) n ≡ byte_at k (n / 256)
 byte_before zero n = refl
 byte_before (suc k) n =
-    ap (λ (q : ℕ). q % 256) (ap (λ (p : ℕ). n / p) (pow-suc 256 (suc k) ∙ omega arith) ∙ sym (div-div-eq-div-mul n 256 (256 ^ suc k)))
+    ap (λ (q : ℕ). q % 256)
+    (ap (λ (p : ℕ). n / p) (pow-suc 256 (suc k) ∙ omega arith) ∙ sym (div-div-eq-div-mul n 256 (256 ^ suc k)))
 
 bytes_last : (k n : ℕ) → bytes_high_first (suc k) n ≡ bytes_high_first k (n / 256) ++ (n % 256) ∷ []
 bytes_last zero n = refl

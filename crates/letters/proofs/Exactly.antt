@@ -23,12 +23,14 @@ told_tells text out = by_test (too_short text out) refl
     by_test false e = record { answers = refl; numbered = rw e; valued = rw e; leaves = refl }
 
 -- 8 exactly if the buffer is shorter than the text
-pub eight-if : {text out after : List ℕ} {answer : Result ℕ TooShort} → Tells text out answer after → length out < length text
+pub eight-if : {text out after : List ℕ} {answer : Result ℕ TooShort}
+    → Tells text out answer after → length out < length text
     → told_number answer ≡ 8
 unfolding too_short
 eight-if {text} {out} tells h = tells.numbered ∙ rw (lt-ltb (length out) (length text) h)
 
-pub eight_only : {text out after : List ℕ} {answer : Result ℕ TooShort} → Tells text out answer after → told_number answer ≡ 8
+pub eight_only : {text out after : List ℕ} {answer : Result ℕ TooShort}
+    → Tells text out answer after → told_number answer ≡ 8
     → length out < length text
 unfolding too_short
 eight_only {text} {out} tells e = by_test (ltb (length out) (length text)) refl (sym tells.numbered ∙ e)
@@ -39,13 +41,15 @@ eight_only {text} {out} tells e = by_test (ltb (length out) (length text)) refl 
     by_test false t e = absurd (omega arith)
 
 -- a buffer that is no shorter is enough
-pub enough : {text out after : List ℕ} {answer : Result ℕ TooShort} → Tells text out answer after → length text ≤ length out
+pub enough : {text out after : List ℕ} {answer : Result ℕ TooShort}
+    → Tells text out answer after → length text ≤ length out
     → told_number answer ≡ 0
 unfolding too_short
 enough {text} {out} tells h = tells.numbered ∙ rw (le-ltb (length out) (length text) h)
 
 -- on a refusal the buffer is as it was
-pub eight-same : {text out after : List ℕ} {answer : Result ℕ TooShort} → Tells text out answer after → told_number answer ≡ 8
+pub eight-same : {text out after : List ℕ} {answer : Result ℕ TooShort}
+    → Tells text out answer after → told_number answer ≡ 8
     → after ≡ out
 unfolding too_short buffer_of
 eight-same {text} {out} tells e =

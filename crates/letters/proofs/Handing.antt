@@ -45,7 +45,8 @@ module _ (text out : List ℕ) where
   count_front {after} {end} wrote = rw (front wrote) (wrote.to ∙ omega arith)
 
 -- what was written at the front of our own buffer was handed over
-pub tells_front : {own text same after out last : List ℕ} {end : ℕ} {answer : Result ℕ TooShort} → Wrote own 0 text after end
+pub tells_front : {own text same after out last : List ℕ} {end : ℕ} {answer : Result ℕ TooShort}
+    → Wrote own 0 text after end
     → text ≡ same → Tells (take end after) out answer last → Tells same out answer last
 tells_front {own} {text} wrote e tells = rw (front text own wrote, e) at tells
 
@@ -63,7 +64,8 @@ tells_within {own} {text} {same} {after} {out} {last} {end} {answer} room wrote 
     tells_short-enough room long (tells_front wrote e tells)
 
 -- with that room the text stands at the front of the buffer, so many characters of it
-pub within_wrote : {text out after : List ℕ} {answer : Result ℕ TooShort} (room : ℕ) → TellsWithin room text out answer after
+pub within_wrote : {text out after : List ℕ} {answer : Result ℕ TooShort} (room : ℕ)
+    → TellsWithin room text out answer after
     → room ≤ length out → Wrote out 0 text after (written_of answer) × (written_of answer ≤ length after)
 unfolding too_short told_of buffer_of
 within_wrote {text} {out} {after} {answer} room told h =

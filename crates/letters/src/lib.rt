@@ -32,7 +32,8 @@ pub fn written(told: Result<usize, TooShort>) -> usize
     told.unwrap_or(0)
 }
 
-// A text from byte `at` on, and the place behind it. Where it has no room nothing is written, and the place stays.
+// A text from byte `at` on, and the place behind it. Where it has no room nothing is written, and the place stays. The
+// buffer and the place go in side by side, and not as one struct: so `NoSecondAnswer` of the claims states each of these.
 pub fn put(text: &[u8], out: &mut [u8], at: usize) -> usize
     ensures { Put text.now out.old at out.new result }
 {
@@ -56,7 +57,7 @@ pub fn put_number(number: u64, out: &mut [u8], at: usize) -> usize
     put(Buffer::new().format(number).as_bytes(), out, at)
 }
 
-// The letters of a word: the bytes of its number from the first that is not 0 on, or the last.
+// The letters of a word that is held as a number: its bytes from the first that is not 0 on, or the last.
 pub fn put_word(letters: u64, out: &mut [u8], at: usize) -> usize
     ensures { Put (letters_of letters) out.old at out.new result }
 {

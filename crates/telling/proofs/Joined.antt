@@ -1,7 +1,7 @@
 -- Texts one behind the other: of the pieces of a line, and turn by turn of the elements of a list.
 use Prim.Native.Nat.{ℕ, ◌+◌, ◌<◌, ◌≤◌}
 use mathlib.Core.Path.{◌≡◌, refl, sym, ap, ◌∙◌}
-use mathlib.Core.List.{List, [], ◌∷◌, ◌++◌, append_assoc, append-nil}
+use mathlib.Core.List.{List, [], ◌∷◌, ◌++◌, append_assoc}
 use native.Mathlib.Omega.{arith}
 use lib.ListN.{length, get_or, take}
 use lib.Seq.{take_all}
@@ -37,9 +37,6 @@ line_append (piece ∷ one) two =
 
 -- before turn i the texts of the first i elements stand behind what was there
 module _ {A : Type 0} (text : A → List ℕ) (xs : List A) (start : List ℕ) where
-  pub turn_first : start ≡ start ++ joined text (take 0 xs)
-  turn_first = sym (append-nil start)
-
   pub turn_next : {i : ℕ} {page after : List ℕ} (d : A) → i < length xs → page ≡ start ++ joined text (take i xs)
       → after ≡ page ++ text (get_or xs i d) → after ≡ start ++ joined text (take (i + 1) xs)
   turn_next {i} d h before put =

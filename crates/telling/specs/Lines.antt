@@ -96,7 +96,8 @@ codes_line one two =
 -- the address and the flag of a text part, and its first two characters
 abbrev pub part_line : ℕ → Bool → ℕ → List Piece
 part_line address flag pair =
-    Word (codes " text ") ∷ Number address ∷ Word (codes " flag ") ∷ bit_piece flag ∷ Word (codes " \"") ∷ pair_line pair
+    Word (codes " text ") ∷ Number address ∷ Word (codes " flag ") ∷ bit_piece flag ∷ Word (codes " \"")
+    ∷ pair_line pair
 
 -- the sign of an offset
 abbrev pub sign_piece : Bool → Piece

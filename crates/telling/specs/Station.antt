@@ -52,8 +52,8 @@ flag_piece None = none
 -- how many frequencies are held of those expected
 abbrev pub list_line : Record → List Piece
 list_line station =
-    Word (codes "\nflag ") ∷ flag_piece (text_flag_of station) ∷ Word (codes "\nAF ") ∷ Number (held_of (af_list_of station))
-    ∷ Word (codes " of ") ∷ Number (expected_of (af_list_of station)) ∷ []
+    Word (codes "\nflag ") ∷ flag_piece (text_flag_of station) ∷ Word (codes "\nAF ")
+    ∷ Number (held_of (af_list_of station)) ∷ Word (codes " of ") ∷ Number (expected_of (af_list_of station)) ∷ []
 
 -- and the first n of them, in kHz
 unfoldable pub frequencies_to : AfList → ℕ → List ℕ

@@ -62,6 +62,9 @@ fn list_line(station: Record) -> [Piece; 6]
     ]
 }
 
+// Room is reckoned at 20 characters for each piece of a line, 4 for a character as it is shown and for a mark, and 24 for
+// a frequency behind its space.
+
 // Characters, one behind the other.
 fn put_characters(characters: &[u8], page: &mut Page<STATION_ROOM>)
     requires { length page.old + 4 * length characters.now ≤ 7919 }

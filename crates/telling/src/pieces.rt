@@ -1,4 +1,6 @@
 // The pieces that a line is made of, and a page that they are written on.
+// Not by `write!` and `Display`: what those promise holds where they answer `Ok`, and nothing says when they do, so that a
+// line that has room might be refused.
 ghost use Rattle.std.specs.Prelude.{◌≡◌, ℕ, List, [], ◌+◌, ◌*◌, ◌++◌, ◌≤◌, length, take};
 ghost use Rattle.letters.specs.Letters.{Wrote, decimal_of};
 ghost use Rattle.letters.specs.Told.{TellsWithin};

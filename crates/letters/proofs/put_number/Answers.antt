@@ -4,4 +4,6 @@ use Rattle.letters.proofs.Decimals.{decimal_same}
 use Rattle.letters.proofs.put_number.Goals as goal
 
 pub returns : goal.returns
-returns c = rw (c.as_bytes.ensures.value, c.format.ensures.text, decimal_same c.args.number (omega arith)) at c.put.ensures
+returns c =
+    rw (c.as_bytes.ensures.value, c.format.ensures.text, decimal_same c.args.number (omega arith)) at
+    c.put.ensures

@@ -7,11 +7,13 @@ use Rattle.telling.proofs.Joined.{told_text, joined_pieces, most_20, turn_next, 
 use Rattle.telling.proofs.pieces.Page.put_line.Goals as goal
 
 pub loop-piece-preserved : goal.loop-piece-preserved
-loop-piece-preserved g c = (
-  turn_next told_text c.args.line.now c.args.self.now (Word record { ref_ptr = (0, 0); now = [] }) (omega arith)
-      c.loop-piece.invariant.0 c.put.ensures.text,
-  omega (arith, c.put.ensures.most, most_20 (get_or c.args.line.now c.loop-piece.piece-index (Word record { ref_ptr = (0, 0); now = [] }))),
-)
+loop-piece-preserved g c =
+    let none = Word record { ref_ptr = (0, 0); now = [] } in
+    let most = most_20 (get_or c.args.line.now c.loop-piece.piece-index none) in (
+      turn_next told_text c.args.line.now c.args.self.now none (omega arith) c.loop-piece.invariant.0
+          c.put.ensures.text,
+      omega (arith, c.put.ensures.most),
+    )
 
 pub returns-clause-text : goal.returns-clause-text
 returns-clause-text g c =
