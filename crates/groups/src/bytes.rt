@@ -17,7 +17,7 @@ pub enum Put {
 }
 
 // The bytes of a group.
-const SIZE: usize = 13;
+pub const SIZE: usize = 13;
 
 // A block, wide enough to put others beside it.
 fn block(word: u16, kind: Kind) -> u64

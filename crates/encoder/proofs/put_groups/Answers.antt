@@ -1,7 +1,6 @@
 -- `encoder::put_groups` meets its contract: each address puts its group behind those before it.
-use Rattle.std.proofs.Common.{arith, rules, refl, ap, ◌∙◌, ◌≡◌, length}
+use Rattle.std.proofs.Common.{arith, refl}
 use Rattle.encoder.specs.Encoding.{encoding, below}
-use Rattle.encoder.proofs.SentLaws.{length-below}
 use Rattle.encoder.proofs.SizeLaws.{size_sent}
 use Rattle.encoder.proofs.BufferLaws.{put_turn, put_end}
 use Rattle.encoder.proofs.put_groups.Goals as goal
