@@ -17,7 +17,7 @@ use Rattle.encoder.specs.Encoding.{encoding, below, sent_of, size_of}
 use Rattle.encoder.specs.Answer.{encoded_number, too_short, encode_of, after_of, out_of}
 use Rattle.std.specs.Prelude.{Result, Ok, Err}
 use Rattle.encoder.specs.declared.EncodeError.{EncodeError}
-use Rattle.encoder.specs.declared.EncodeError.TheVariants.{NoKey, BadKey, TooShort}
+use Rattle.encoder.specs.declared.EncodeError.TheVariants.{TooShort}
 use Rattle.encoder.proofs.EncodingLaws.{length_encoding, encoding_next}
 use Rattle.encoder.proofs.SentLaws.{length-below, length_sent}
 use Rattle.encoder.proofs.SizeLaws.{size_sent}

@@ -9,6 +9,7 @@ ghost use Rattle.encoder.specs.Encoding.{sent_of, size_of};
 ghost use Rattle.encoder.specs.Answer.{refused, encoded_number, encoded_values, too_short};
 ghost use Rattle.encoder.specs.Answer.{encode_of, encode_number, encode_values, after_of, out_of};
 
+use groups::bytes::SIZE;
 use keys::{Key, KeyError, NAME_ADDRESSES};
 
 // The type of 0A.
@@ -28,9 +29,6 @@ const PTY_AT: u16 = 32;
 
 // Word 3 of 0A: no AF.
 const NO_FREQUENCIES: u16 = 0xE0CD;
-
-// Bytes of a group.
-const GROUP_SIZE: usize = 13;
 
 // Why nothing was written: refusals 1, 2 and 8.
 #[derive(Clone, Copy, PartialEq, Eq)]
@@ -68,7 +66,7 @@ fn encode_key(key: Key, out: &mut [u8]) -> Result<usize, EncodeError>
         (Ok (size_of key.bytes)))
         × (out.new ≡ after_of result key.bytes out.old) }
 {
-    let size = GROUP_SIZE * usize::from(sent(key));
+    let size = SIZE * usize::from(sent(key));
     if out.len() < size {
         return Err(EncodeError::TooShort);
     }
@@ -90,12 +88,7 @@ fn put_groups(key: Key, out: &mut [u8])
         ≡ after_of (Ok (size_of key.bytes)) key.bytes out.old }
 {
     for address in 0..sent(key) {
-        groups::bytes::put_at(
-            words_at(key, address),
-            out,
-            GROUP_SIZE * usize::from(address),
-        )
-        .unwrap();
+        groups::bytes::put_at(words_at(key, address), out, SIZE * usize::from(address)).unwrap();
     }
 }
 

@@ -14,7 +14,7 @@ use blocks::{Judged, Kind};
 pub struct TooShort;
 
 // The bytes of a group.
-const SIZE: usize = 13;
+pub const SIZE: usize = 13;
 
 // A block, wide enough to put others beside it.
 fn block(word: u16, kind: Kind) -> u64

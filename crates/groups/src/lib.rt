@@ -12,7 +12,7 @@ pub mod fields;
 use blocks::{Judged, Kind};
 
 // The places of a group; word 1 is at place 0.
-const PLACES: usize = 4;
+pub const PLACES: usize = 4;
 
 // Four words and which of them were good. Made only by `empty`, `with_block` and `all_good`.
 #[derive(Clone, Copy)]

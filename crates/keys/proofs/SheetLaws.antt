@@ -1,16 +1,14 @@
 -- The sheet has exercise n exactly if the test of answer 1 says no; and the key of n is its 80 bytes from 80 n on.
 -- Each test of `no_key` is turned into its fact about the length, and linear arithmetic joins these to whole records.
-use Prim.Native.Nat.{ℕ, suc, ◌+◌, ◌*◌, ◌/◌, ◌%◌, ◌≤◌, ◌<◌}
+use Prim.Native.Nat.{ℕ, ◌+◌, ◌*◌, ◌/◌, ◌%◌, ◌≤◌, ◌<◌}
 use mathlib.Core.Path.{◌≡◌, ◌∙◌}
-use mathlib.Core.List.{List, ◌++◌, append-nil}
+use mathlib.Core.List.{List}
 use mathlib.Core.Bool.{false, not}
 use mathlib.Mathlib.Data.Bool.Basic.{or-eq-false-eq-eq-false-and-eq-false as or-none}
 use native.Mathlib.Decide.{dec_lt}
-use native.Mathlib.Nat.{zero-add}
-use native.Mathlib.Numerals.{add-one}
 use native.Mathlib.Omega.{arith}
-use lib.ListN.{length, get_or, take, drop, set, length-drop, length-take, drop_of_length-le, get_or-eq_default}
-use lib.Seq.{length-take-le, get_or-take, get_or-drop, paste-suc}
+use lib.ListN.{length, get_or, take, drop, length-drop, length-take, get_or-eq_default}
+use lib.Seq.{length-take-le, get_or-take, get_or-drop}
 use lib.Dec.{eqb, ltb}
 use borrow.Author.Tests.{eqb-true, eqb-false, ltb-false, leb-false, not-false, ne_eqb, eq-eqb, le-ltb, lt-leb}
 use Rattle.bits.specs.Bytes.{Bytes}

@@ -3,7 +3,7 @@
 // Refused: a sheet that is no 1 to 256 records, an exercise that it lacks (1), and a key that is not good (2).
 #![tactic(auto)]
 
-ghost use Rattle.std.specs.Prelude.{◌≡◌, cond, not, ◌+◌, ◌*◌, ◌≤◌, length, get_or};
+ghost use Rattle.std.specs.Prelude.{◌≡◌, cond, not, ◌+◌, ◌*◌, ◌≤◌, nat_le, length, get_or};
 ghost use Rattle.keys.specs.Sheet.{record_size, no_key, key_at};
 ghost use Rattle.keys.specs.Fields.{pair_of, pi_of, pty_of, tp_of, wanted_of, name_pair_of, text_pair_of};
 ghost use Rattle.keys.specs.Wanted.{addresses_of, text_length_of};
@@ -125,20 +125,14 @@ pub fn wanted(key: Key) -> bool
 pub fn name_pair(key: Key, a: u8) -> u16
     ensures { result ≡ name_pair_of key.bytes a }
 {
-    if a >= NAME_PAIRS {
-        return 0;
-    }
-    pair_at(key, NAME + 2 * usize::from(a))
+    field_pair(key, NAME, NAME_PAIRS, a)
 }
 
 // Text characters 2a and 2a + 1; 0 where the text has no pair a.
 pub fn text_pair(key: Key, a: u8) -> u16
     ensures { result ≡ text_pair_of key.bytes a }
 {
-    if a >= TEXT_PAIRS {
-        return 0;
-    }
-    pair_at(key, TEXT + 2 * usize::from(a))
+    field_pair(key, TEXT, TEXT_PAIRS, a)
 }
 
 // How many addresses are wanted: those below it.
@@ -157,6 +151,18 @@ pub fn text_length(key: Key) -> u8
     ensures { result ≡ text_length_of key.bytes }
 {
     if wanted(key) { TEXT_SIZE } else { 0 }
+}
+
+// Characters 2a and 2a + 1 of a field that begins at byte `at` and has so many pairs; 0 where it has no pair a.
+fn field_pair(key: Key, at: usize, pairs: u8, a: u8) -> u16
+    requires { at + 2 * pairs ≤ record_size }
+    ensures { result ≡ cond (nat_le pairs a) 0
+        (pair_of (get_or key.bytes (at + 2 * a) 0) (get_or key.bytes (at + (2 * a + 1)) 0)) }
+{
+    if a >= pairs {
+        return 0;
+    }
+    pair_at(key, at + 2 * usize::from(a))
 }
 
 // The two bytes of a key from byte `at` on as a word, high first.

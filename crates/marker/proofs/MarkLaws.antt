@@ -4,7 +4,6 @@ use Prim.Native.Nat.{ℕ}
 use mathlib.Core.Path.{◌≡◌, refl, sym, ap, ◌∙◌}
 use mathlib.Core.List.{List}
 use mathlib.Core.Bool.{Bool, true, false, not, cond}
-use native.Mathlib.Omega.{arith}
 use Rattle.keys.specs.declared.Key.{Key}
 use Rattle.keys.specs.declared.KeyError.{KeyError}
 use Rattle.keys.specs.declared.KeyError.TheVariants as key

@@ -3,7 +3,9 @@ ghost use Rattle.std.specs.Prelude.{◌≡◌};
 ghost use Rattle.marker.specs.Tests.{block_wrong};
 ghost use Rattle.marker.specs.Mark.{first_bad_block};
 
-use crate::{GROUP, PLACES, reader};
+use crate::reader;
+use groups::PLACES;
+use groups::bytes::SIZE as GROUP;
 
 // The first block that is not valid as its kind.
 pub(crate) fn first_bad_block(submission: &[u8]) -> Option<usize>

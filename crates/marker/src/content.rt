@@ -7,7 +7,9 @@ ghost use Rattle.marker.specs.Steps.{heading_of, step_of};
 ghost use Rattle.marker.specs.Mark.{content_mark};
 
 use crate::seen::TEXT;
-use crate::{GROUP, PLACES, Verdict, reader, seen};
+use crate::{Verdict, reader, seen};
+use groups::PLACES;
+use groups::bytes::SIZE as GROUP;
 use groups::fields::Content;
 use keys::Key;
 

@@ -12,13 +12,8 @@ mod content;
 mod reader;
 mod seen;
 
+use groups::bytes::SIZE as GROUP;
 use keys::{Key, KeyError};
-
-// Bytes of a group.
-const GROUP: usize = 13;
-
-// Blocks of a group.
-const PLACES: usize = 4;
 
 // Bytes of the longest submission.
 const LIMIT: usize = 13312;

@@ -19,32 +19,34 @@ fn block_at(bytes: &[u8], number: usize) -> u32
     groups::bytes::block_at(bytes, number)
 }
 
-// A reader at the first block.
-fn new<'a>(bytes: &'a [u8]) -> Reader<'a>
-    ensures { (result.bytes ≡ bytes.entry) × (result.at ≡ 0) }
-{
-    Reader { bytes, at: 0 }
-}
+impl<'a> Reader<'a> {
+    // A reader at the first block.
+    fn new(bytes: &'a [u8]) -> Reader<'a>
+        ensures { (result.bytes ≡ bytes.entry) × (result.at ≡ 0) }
+    {
+        Reader { bytes, at: 0 }
+    }
 
-// The same reader at another block.
-fn moved<'a>(r: Reader<'a>, at: usize) -> Reader<'a>
-    ensures { (result.bytes ≡ r.entry.bytes) × (result.at ≡ at) }
-{
-    Reader { bytes: r.bytes, at }
-}
+    // The same reader at another block.
+    fn moved(self, at: usize) -> Reader<'a>
+        ensures { (result.bytes ≡ self.entry.bytes) × (result.at ≡ at) }
+    {
+        Reader { at, ..self }
+    }
 
-// The block that a reader stands at.
-fn block<'a>(r: Reader<'a>) -> u32
-    ensures { result ≡ block_in r.entry.bytes.now r.entry.at }
-{
-    block_at(r.bytes, r.at)
+    // The block that a reader stands at.
+    fn block(self) -> u32
+        ensures { result ≡ block_in self.entry.bytes.now self.entry.at }
+    {
+        block_at(self.bytes, self.at)
+    }
 }
 
 // Block number `number` of the bytes, through a reader that is moved there.
 pub(crate) fn block_in(bytes: &[u8], number: usize) -> u32
     ensures { result ≡ block_in bytes.now number }
 {
-    block(moved(new(bytes), number))
+    Reader::new(bytes).moved(number).block()
 }
 
 // The word of a block, whatever its check.

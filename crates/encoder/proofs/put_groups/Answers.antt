@@ -1,5 +1,5 @@
 -- `encoder::put_groups` meets its contract: each address puts its group behind those before it, and there is room for it.
-use Rattle.std.proofs.Common.{arith, rules, refl, ap, ◌∙◌, ◌≡◌, ◌*◌, length}
+use Rattle.std.proofs.Common.{arith, refl, ap, ◌∙◌, ◌≡◌, ◌*◌, length}
 use Rattle.groups.proofs.RoomLaws.{put_room}
 use Rattle.encoder.specs.Encoding.{encoding, below}
 use Rattle.encoder.proofs.SentLaws.{length-below}

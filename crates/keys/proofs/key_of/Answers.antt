@@ -3,7 +3,7 @@
 use Rattle.std.proofs.Common.{◌≡◌, sym, ap, ◌∙◌, true, false}
 use Rattle.keys.specs.Sheet.{no_key, key_at}
 use Rattle.keys.specs.Good.{key_good}
-use Rattle.keys.specs.Asked.{key_number_of, given, key_of}
+use Rattle.keys.specs.Asked.{key_number_of, given}
 use Rattle.keys.proofs.SheetLaws.{has_exercise, record_whole}
 use Rattle.keys.proofs.AnswerLaws.{asked_none, asked_bad, asked_good, key_number}
 use Rattle.keys.proofs.key_of.Goals as goal

@@ -1,5 +1,5 @@
 -- `marker::checks::first_bad_block` meets its promise: what `find` says of the range is what `first` says.
-use Rattle.std.proofs.Common.{◌≡◌, arith, rules, true, false}
+use Rattle.std.proofs.Common.{◌≡◌, rules, true, false}
 use Rattle.std.proofs.lemmas.Iterator.{first_from_Range}
 use borrow.Author.Tests.{tests}
 use Rattle.marker.specs.Submission.{blocks_in}

@@ -3,7 +3,7 @@
 use Rattle.std.proofs.Common.{arith, rules, ap, not}
 use Rattle.std.proofs.lemmas.Bool.Decides.{nat_tests}
 use Rattle.marker.specs.Tests.{text_wrong}
-use Rattle.marker.proofs.TestLaws.{text_address_lt, text_unwanted, text_compared}
+use Rattle.marker.proofs.TestLaws.{text_address_lt, text_unwanted}
 use Rattle.marker.proofs.content.text_wrong.Goals as goal
 
 pub returns-then-not-is_wanted : goal.returns-then-not-is_wanted
