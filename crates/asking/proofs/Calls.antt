@@ -39,7 +39,7 @@ after_less (GoOn there) (Err error) room e = omega arith
 after_less (Ended there) got room e = absurd (true≢false (sym e))
 after_less (Failed error) got room e = absurd (true≢false (sym e))
 
--- the same of a turn of reading, whose buffer keeps its length
+-- the same of a turn, whose buffer keeps its length
 module _ (r s : Reading) (got : Result ℕ Error) (room room' : ℕ) (e : s ≡ after_of r got room') (same : room' ≡ room) where
   pub turn_within : there_of r ≤ room → there_of s ≤ room'
   turn_within h = rw (e, same) (after_within r got room h)
@@ -57,3 +57,6 @@ piece_within got room m s e f =
     let within = after_within (GoOn 0) got room (omega arith) in
     let there : there_of (after_of (GoOn 0) got room) ≡ m = ap there_of (sym e ∙ f) in
     omega arith
+
+-- a turn of reading
+pub ruleset turns = (turn_within, turn_less, turn_fresh)

@@ -74,3 +74,6 @@ module _ (text : List ℕ) where
 
   pub last_named : (i high : ℕ) → length text ≤ i → high ≤ last_exercise → named_from (drop i text) high ≡ Some high
   last_named i high h e = rw (drop_of_length-le text h) (named_end high e)
+
+-- a text, character by character
+pub ruleset by_characters = (first_named, none_named, other_named, over-named, next_named, last_named)

@@ -3,6 +3,7 @@ ghost use Rattle.std.specs.Prelude.{◌≡◌};
 ghost use Rattle.asking.specs.Exercise.{named_of};
 
 // The exercise that a text names, or none. The library's `parse` would take a `+` in front of the digits too.
+#[tactic(auto, using(crate::proofs::Digits::by_characters))]
 pub fn named(text: &[u8]) -> Option<u8>
     ensures { result ≡ named_of text.now }
 {

@@ -1,5 +1,5 @@
 -- What is open for reading.
-use Rattle.std.specs.Prelude.{ℕ, List, Option, None, Some}
+use Rattle.std.specs.Prelude.{ℕ, List, Option, IsSomeAnd}
 use Rattle.files.specs.declared.input.Source.{Source}
 use Rattle.files.specs.declared.input.Source.TheVariants.{Standard, File}
 
@@ -15,5 +15,4 @@ IsStandard (File file) = ⊥
 
 -- standard input is open
 abbrev pub OpensStandard : {S F : Type 0} → Option (Source S F) → Type 0
-OpensStandard (Some input) = IsStandard input
-OpensStandard None = ⊥
+OpensStandard opened = IsSomeAnd opened IsStandard

@@ -21,10 +21,7 @@ pub(crate) fn fail(errors: &impl Print, what: &[u8], error: Error) {
 fn why(text: &[u8]) -> &str {
     let all = str::from_utf8(text).unwrap_or("");
     let worded = all.trim_end_matches('\0');
-    match worded.split_once(NUMBER) {
-        Some((words, _)) => words,
-        None => worded,
-    }
+    worded.split_once(NUMBER).map_or(worded, |(words, _)| words)
 }
 
 // A failure to say what failed is not said.

@@ -24,6 +24,7 @@ use std::{fs, io};
 
 // Reads until the buffer is full, the input ends or a call fails, and answers which, with the bytes that are there, or
 // why the call failed. Nothing has failed before the first call.
+#[tactic(auto, using(asking::proofs::Calls::turns))]
 pub fn fill(input: &mut impl Read, buffer: &mut [u8]) -> Reading
     ensures within { IsPrefixLen (there_of result) buffer.new }
     ensures fresh { length buffer.new ≡ 0 → result ≡ GoOn 0 }
@@ -53,7 +54,7 @@ pub fn open<R: Files + Input>(
     match open_file(rt, name) {
         Ok(file) => Some(Source::File(file)),
         Err(error) => {
-            if (error.kind() != ErrorKind::NotFound) | !may_be_absent {
+            if error.kind() != ErrorKind::NotFound || !may_be_absent {
                 fail(errors, name, error);
             }
             None
@@ -72,16 +73,14 @@ pub fn read_file(
 ) -> usize
     ensures { IsPrefixLen result buffer.new }
 {
-    match open(rt, errors, name, may_be_absent) {
-        Some(mut input) => {
-            let reading = fill(&mut input, buffer);
-            if let Reading::Failed(error) = reading {
-                say_failed(errors, name, error);
-            }
-            reading::there(reading)
-        }
-        None => 0,
+    let Some(mut input) = open(rt, errors, name, may_be_absent) else {
+        return 0;
+    };
+    let reading = fill(&mut input, buffer);
+    if let Reading::Failed(error) = reading {
+        say_failed(errors, name, error);
     }
+    reading::there(reading)
 }
 
 // Says why a call on a file failed, by the file's name.
@@ -102,8 +101,6 @@ pub fn say_lost(errors: &impl Print, written: io::Result<()>) -> io::Result<()>
 
 // Opens a file by its name, which is to be text.
 fn open_file<R: Files>(rt: &R, name: &[u8]) -> io::Result<R::File> {
-    match str::from_utf8(name) {
-        Ok(path) => fs::open(rt, path),
-        Err(_) => Err(Error::from(ErrorKind::InvalidFilename)),
-    }
+    let path = str::from_utf8(name).map_err(|_| Error::from(ErrorKind::InvalidFilename))?;
+    fs::open(rt, path)
 }

@@ -99,6 +99,7 @@ impl<R: Runtime, E: Print> Listener<'_, R, E> {
     }
 
     // Feeds a piece of a recording, from answer to answer, and writes their lines.
+    #[tactic(auto, using(crate::proofs::Turns::turns))]
     fn hear(&self, start: Listened, piece: &[u8]) -> Listened
         ensures { result.ear ≡ hear_of start.ear piece.now }
     {
@@ -106,6 +107,7 @@ impl<R: Runtime, E: Print> Listener<'_, R, E> {
         let mut open = start.open;
         let mut byte: usize = 0;
         let mut bit: u8 = 0;
+        // No `for`: how far a turn goes is what `advance` says.
         while byte < piece.len() {
             let receiver = ear.receiver;
             let taken = receiver.advance(piece, byte, bit);
@@ -124,7 +126,7 @@ impl<R: Runtime, E: Print> Listener<'_, R, E> {
     // Writes the lines of what was taken, each by one call, and answers whether both could be written. None is told once
     // one could not.
     fn write_taken(&self, ear: Ear, taken: Advanced, before: u64, open: bool) -> bool {
-        let short = self.short | !open;
+        let short = self.short || !open;
         let mut group = [0u8; GROUP_ROOM];
         let length = recording::group_line(ear, taken, short, &mut group);
         let mut lock = [0u8; LINE_ROOM];

@@ -10,7 +10,7 @@ mod asked;
 use std::io;
 use std::io::Read;
 
-// The bytes of a case, and the most that is read of the cases.
+// The bytes of a case, and the most that is read of the cases: an array's room, since a vector's memory can run out.
 const CASE_SIZE: usize = 17;
 
 const ROOM: usize = 100000;

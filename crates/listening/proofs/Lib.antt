@@ -1,0 +1,2 @@
+-- The laws of `listening`.
+pub mod Turns
