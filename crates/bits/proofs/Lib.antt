@@ -4,3 +4,4 @@ pub mod Computed
 pub mod Xor
 pub mod Spelling
 pub mod ByteBits
+pub mod Flags

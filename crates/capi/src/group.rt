@@ -1,5 +1,5 @@
 // Groups: four words into a buffer as thirteen bytes, and back, and the switches of 0A and 0B.
-ghost use Rattle.std.specs.Prelude.{◌≡◌, cond, [], ◌∷◌, ◌≤◌};
+ghost use Rattle.std.specs.Prelude.{◌≡◌, [], ◌∷◌};
 ghost use Rattle.groups.specs.Content.{carried_of};
 ghost use Rattle.groups.specs.Written.{put_at_of, put_number, buffer_of, group_in};
 ghost use Rattle.capi.specs.Groups.{word_code, carried_code};
@@ -48,7 +48,7 @@ pub fn bench_read_word(bytes: &[u8], place: usize) -> u32
 fn word_code(group: Group, place: usize) -> u32
     ensures { result ≡ word_code group place }
 {
-    let word = groups::word(group, place) as u32;
+    let word = u32::from(groups::word(group, place));
     if groups::good(group, place) {
         return ABOVE_WORD + word;
     }
@@ -66,14 +66,9 @@ fn carried_code(carried: Option<Switches>) -> u8
     ensures { result ≡ carried_code carried }
 {
     match carried {
-        Some(switches) => 8 + 4 * bit(switches.ta) + 2 * bit(switches.ms) + bit(switches.di),
+        Some(switches) => {
+            8 + 4 * u8::from(switches.ta) + 2 * u8::from(switches.ms) + u8::from(switches.di)
+        }
         None => 0,
     }
-}
-
-// A yes or no as a bit.
-fn bit(on: bool) -> u8
-    ensures { (result ≡ cond on 1 0) × (result ≤ 1) }
-{
-    if on { 1 } else { 0 }
 }

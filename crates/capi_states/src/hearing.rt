@@ -1,10 +1,9 @@
 // The receiver: its state is bytes that the caller keeps, and what it answers is told in a second buffer.
 // Refused, with number 8: a buffer that is too short; with number 9: a bit neither 0 nor 1. Both are then as they were.
-ghost use Rattle.std.specs.Prelude.{◌≡◌, cond, ◌++◌, ◌≤◌, length, drop};
+ghost use Rattle.std.specs.Prelude.{◌≡◌, ◌++◌, ◌≤◌, length, drop};
 ghost use Rattle.receiver.specs.Machine.{fresh_of, step_of};
 ghost use Rattle.receiver.specs.Feeding.{advance_of};
 ghost use Rattle.saving.specs.Saving.{save_of, saved_number, buffer_of, restore_of};
-ghost use Rattle.capi.specs.Groups.{bit_of};
 ghost use Rattle.capi_states.specs.Hearing.{answer_code, told_size, told_of, no_room, bit_refused};
 ghost use Rattle.capi_states.specs.Hearing.{state_after, told_after, place_after, stepped_state, stepped_told};
 
@@ -100,36 +99,29 @@ fn answer_code(answer: Answer) -> u8
     }
 }
 
-// A yes or no as a bit.
-fn mark(on: bool) -> u8
-    ensures { result ≡ bit_of on }
-{
-    if on { 1 } else { 0 }
-}
-
 // What is told, as bytes.
 fn told_bytes(answer: Answer, group: Group, bit: u8) -> [u8; 14]
     ensures { result ≡ told_of answer group bit }
 {
-    let one = groups::word(group, 0);
-    let two = groups::word(group, 1);
-    let three = groups::word(group, 2);
-    let four = groups::word(group, 3);
+    let one = groups::word(group, 0).to_be_bytes();
+    let two = groups::word(group, 1).to_be_bytes();
+    let three = groups::word(group, 2).to_be_bytes();
+    let four = groups::word(group, 3).to_be_bytes();
     [
         answer_code(answer),
         bit,
-        mark(groups::good(group, 0)),
-        mark(groups::good(group, 1)),
-        mark(groups::good(group, 2)),
-        mark(groups::good(group, 3)),
-        (one / 256) as u8,
-        (one % 256) as u8,
-        (two / 256) as u8,
-        (two % 256) as u8,
-        (three / 256) as u8,
-        (three % 256) as u8,
-        (four / 256) as u8,
-        (four % 256) as u8,
+        u8::from(groups::good(group, 0)),
+        u8::from(groups::good(group, 1)),
+        u8::from(groups::good(group, 2)),
+        u8::from(groups::good(group, 3)),
+        one[0],
+        one[1],
+        two[0],
+        two[1],
+        three[0],
+        three[1],
+        four[0],
+        four[1],
     ]
 }
 
@@ -138,10 +130,5 @@ fn put_told(answer: Answer, group: Group, bit: u8, told: &mut [u8])
     requires { told_size ≤ length told.old }
     ensures { told.new ≡ told_of answer group bit ++ drop told_size told.old }
 {
-    let bytes = told_bytes(answer, group, bit);
-    let mut i: usize = 0;
-    while i < TOLD_SIZE {
-        told[i] = bytes[i];
-        i += 1;
-    }
+    told[..TOLD_SIZE].copy_from_slice(&told_bytes(answer, group, bit));
 }

@@ -8,9 +8,6 @@ ghost use Rattle.counts.specs.Counts.{no_counts, more_of, with_lock, with_loss, 
 use groups::Group;
 use receiver::Answer;
 
-// The largest count.
-const MOST: u64 = 18_446_744_073_709_551_615;
-
 #[derive(Clone, Copy)]
 pub struct Counts {
     pub groups: u64,
@@ -35,10 +32,7 @@ pub fn none() -> Counts
 fn more(count: u64) -> u64
     ensures { result ≡ more_of count }
 {
-    if count < MOST {
-        return count + 1;
-    }
-    count
+    count.saturating_add(1)
 }
 
 fn with_lock(counts: Counts) -> Counts
@@ -64,9 +58,10 @@ fn bad_with(bad: u64, group: Group) -> u64
     ensures { result ≡ cond (is_all_good_of group) bad (more_of bad) }
 {
     if groups::is_all_good(group) {
-        return bad;
+        bad
+    } else {
+        more(bad)
     }
-    more(bad)
 }
 
 fn with_group(counts: Counts, group: Group) -> Counts

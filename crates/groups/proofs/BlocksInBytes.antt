@@ -1,17 +1,20 @@
 -- Where the blocks of a group stand in its bytes: block 4g + p is 26 of the 32 bits from byte 13g + 3p on, with 6 -
 -- 2p bits behind it.
-use Prim.Native.Nat.{ℕ, ◌+◌, ◌*◌, ◌-◌, ◌/◌, ◌%◌, ◌^◌, ◌<◌, ◌≤◌}
+use Prim.Native.Nat.{ℕ, zero, suc, ◌+◌, ◌*◌, ◌-◌, ◌/◌, ◌%◌, ◌^◌, ◌<◌, ◌≤◌}
 use mathlib.Core.Path.{◌≡◌, sym, ap, ap₂, ◌∙◌}
-use mathlib.Core.List.{List}
+use mathlib.Core.List.{List, [], ◌∷◌}
 use native.Mathlib.Nat.{zero-div}
 use native.Mathlib.Omega.{arith}
+use Rattle.std.specs.Int.{w32, from_be_bytes}
 use lib.ListN.{length, get_or, drop, get_or-eq_default}
 use lib.Pow.{high}
 use Rattle.bits.specs.Spell.{spell}
 use Rattle.bits.specs.Bytes.{bit_at, Bytes}
 use Rattle.bits.proofs.Spelling.{spell_lt, spell_add, spell_part, spell-zeros}
 use Rattle.bits.proofs.ByteBits.{bit_at_lt, spell-byte, spell-drop}
-use Rattle.groups.specs.Written.{block_in, word_in}
+use Rattle.groups.specs.declared.Group.{Group}
+use Rattle.groups.specs.Group.{empty_of, with_block_of}
+use Rattle.groups.specs.Written.{block_in, word_in, judged_in}
 
 -- 32 bits from a byte on are four bytes
 pub spell_four : (s : List ℕ) → Bytes s → (a : ℕ)
@@ -30,14 +33,17 @@ spell_four s byte a =
 
 -- the block at place p of the first group
 pub block_in_bytes : (s : List ℕ) → Bytes s → (p : ℕ) → p < 4
-    → ((get_or s (3 * p) 0 * 256 + get_or s (3 * p + 1) 0) * 65536 + (get_or s (3 * p + 2) 0 * 256 + get_or s (3 * p + 3) 0))
-    / 2 ^ (6 - 2 * p)
-    % 67108864 ≡ block_in s p
+    → from_be_bytes w32 (get_or s (3 * p) 0 ∷ get_or s (3 * p + 1) 0 ∷ get_or s (3 * p + 2) 0 ∷ get_or s (3 * p + 3) 0 ∷ [])
+    / 2 ^ (6 - 2 * p) % 67108864 ≡ block_in s p
 unfolding block_in
 block_in_bytes s byte p h =
+    let e : from_be_bytes w32
+    (get_or s (3 * p) 0 ∷ get_or s (3 * p + 1) 0 ∷ get_or s (3 * p + 2) 0 ∷ get_or s (3 * p + 3) 0 ∷ [])
+    ≡ (get_or s (3 * p) 0 * 256 + get_or s (3 * p + 1) 0) * 65536 + (get_or s (3 * p + 2) 0 * 256 + get_or s (3 * p + 3) 0) =
+    omega arith in
     let n : 32 ≡ 2 * p + 26 + (6 - 2 * p) = omega arith in
     let i : 26 * p ≡ 8 * (3 * p) + 2 * p = omega arith in
-    rw (← spell_four s byte (3 * p), i, n) (sym (spell_part (bit_at s) (bit_at_lt s) (8 * (3 * p)) (2 * p) 26
+    rw (e, ← spell_four s byte (3 * p), i, n) (sym (spell_part (bit_at s) (bit_at_lt s) (8 * (3 * p)) (2 * p) 26
     (6 - 2 * p)))
 
 -- a later group's blocks are those of the bytes from its first on
@@ -71,3 +77,10 @@ unfolding block_in word_in
 word_in-block s j =
     rw (spell_add (bit_at s) (bit_at_lt s) (26 * j) 16 10)
     (high (spell (bit_at s) (26 * j) 16) 10 (spell_lt (bit_at s) (bit_at_lt s) (26 * j + 16) 10))
+
+-- ---- a group, block by block
+
+-- the first so many of its blocks
+unfoldable pub group_before : List ℕ → ℕ → Group
+group_before s zero = empty_of
+group_before s (suc i) = with_block_of (group_before s i) i (judged_in s i)

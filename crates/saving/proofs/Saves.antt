@@ -1,24 +1,23 @@
 -- Laws of saving: bytes as a number, byte by byte; a state that is saved comes back the same.
-use Prim.Native.Nat.{ℕ, suc, ◌+◌, ◌*◌, ◌-◌, ◌/◌, ◌%◌, ◌^◌, ◌<◌, ◌≤◌}
+use Prim.Native.Nat.{ℕ, zero, suc, ◌+◌, ◌*◌, ◌-◌, ◌/◌, ◌%◌, ◌^◌, ◌<◌, ◌≤◌}
 use mathlib.Core.Path.{◌≡◌, refl, sym, ◌∙◌}
 use mathlib.Core.Bool.{false}
-use mathlib.Core.List.{List, [], ◌∷◌, ◌++◌, append_assoc}
+use mathlib.Core.List.{List, [], ◌∷◌, ◌++◌}
 use native.Mathlib.Nat.{add-zero, div-one, mod-eq_of_lt}
-use native.Mathlib.Numerals.{add-one}
 use native.Mathlib.Omega.{arith}
-use lib.ListN.{length, get_or, set, take, drop}
-use lib.Seq.{take_all, take-suc, drop-cons, set_at, length-take-le}
+use lib.ListN.{length, get_or, drop}
 use lib.Pow.{pow_mono}
 use Rattle.bits.specs.Spell.{spell}
 use Rattle.bits.specs.Bytes.{bit_at, Bytes, bytes_of}
 use Rattle.bits.proofs.Spelling.{spell_lt, spell_add}
 use Rattle.bits.proofs.ByteBits.{bit_at_lt, spell-byte, spell-drop, spell_front, spell-bytes_of, length-bytes_of}
-use Rattle.groups.specs.Group.{word_of, good_of}
+use Rattle.groups.specs.declared.Group.{Group}
+use Rattle.groups.specs.Group.{empty_of, with_block_of, word_of, good_of}
 use Rattle.receiver.specs.declared.Receiver.{Receiver}
 use Rattle.receiver.specs.Feeding.{byte_bits}
 use Rattle.std.specs.Prelude.{IsOk}
 use borrow.Author.Tests.{le-ltb}
-use Rattle.saving.specs.Saving.{state_length, save_of, flag_of, place_number_of, state_bytes_of}
+use Rattle.saving.specs.Saving.{state_length, save_of, flag_of, place_number_of, state_bytes_of, saved_block_of}
 
 -- ---- bytes as a number
 
@@ -71,16 +70,14 @@ unfolding state_bytes_of bytes_of word_of good_of
 state_bytes_are r place held good0 good1 good2 good3 p h g0 g1 g2 g3 =
     rw (p, h, g0, g1, g2, g3) (simp div-one)
 
--- one byte more is copied
-pub copy_next : (from out : List ℕ) (i : ℕ) → i < length from → i < length out
-    → set (take i from ++ drop i out) i (get_or from i 0) ≡ take (i + 1) from ++ drop (i + 1) out
-copy_next from out i h l =
-    rw (drop-cons out i 0 l, set_at (take i from) (get_or out i 0) (drop (suc i) out) (get_or from i 0) i (length-take-le i from (omega arith)))
-    (sym (rw (add-one i, take-suc from i 0 h, append_assoc)))
+-- ---- the group in hand
 
--- all of them are
-pub copied : (from out : List ℕ) (i : ℕ) → length from ≡ i → take i from ++ drop i out ≡ from ++ drop i out
-copied from out i h = rw (take_all i from (omega arith))
+-- the first so many of its blocks
+unfoldable pub hand_before : List ℕ → ℕ → Group
+hand_before s zero = empty_of
+hand_before s (suc i) = with_block_of (hand_before s i) i (saved_block_of s i)
+
+-- ---- the buffer
 
 -- with room a state is saved
 pub save-room : (out : List ℕ) → state_length ≤ length out → IsOk (save_of out)

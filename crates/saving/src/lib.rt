@@ -6,7 +6,7 @@ ghost use Rattle.std.specs.Prelude.{◌≡◌, cond, ◌+◌, ◌*◌, ◌<◌, 
 ghost use Rattle.bits.specs.Spell.{spell};
 ghost use Rattle.bits.specs.Bytes.{bit_at};
 ghost use Rattle.receiver.specs.Feeding.{byte_bits};
-ghost use Rattle.saving.specs.Saving.{state_length, flag_of, place_number_of, state_bytes_of, save_of, saved_number};
+ghost use Rattle.saving.specs.Saving.{state_length, place_number_of, state_bytes_of, save_of, saved_number};
 ghost use Rattle.saving.specs.Saving.{buffer_of, place_numbered_of, saved_block_of, saved_hand_of, restore_of};
 
 use blocks::{BlockError, Judged};
@@ -61,46 +61,41 @@ fn place_numbered(number: u8) -> Place
     }
 }
 
-// A yes or no as a byte.
-fn flag(on: bool) -> u8
-    ensures { result ≡ flag_of on }
-{
-    if on { 1 } else { 0 }
-}
-
 // The state as bytes, numbers highest byte first.
 fn state_bytes(receiver: Receiver) -> [u8; 25]
     ensures { result ≡ state_bytes_of receiver }
 {
-    let window = receiver.window;
-    let place = receiver.place;
-    let hand = receiver.hand;
-    let words = hand.words;
-    let good = hand.good;
+    let window = receiver.window.to_be_bytes();
+    let words = receiver.hand.words;
+    let good = receiver.hand.good;
+    let one = words[0].to_be_bytes();
+    let two = words[1].to_be_bytes();
+    let three = words[2].to_be_bytes();
+    let four = words[3].to_be_bytes();
     [
-        (window / 0x100000000000000 % 256) as u8,
-        (window / 0x1000000000000 % 256) as u8,
-        (window / 0x10000000000 % 256) as u8,
-        (window / 0x100000000 % 256) as u8,
-        (window / 0x1000000 % 256) as u8,
-        (window / 0x10000 % 256) as u8,
-        (window / 0x100 % 256) as u8,
-        (window % 256) as u8,
+        window[0],
+        window[1],
+        window[2],
+        window[3],
+        window[4],
+        window[5],
+        window[6],
+        window[7],
         receiver.count,
-        place_number(place),
-        flag(receiver.held),
-        (words[0] / 256 % 256) as u8,
-        (words[0] % 256) as u8,
-        (words[1] / 256 % 256) as u8,
-        (words[1] % 256) as u8,
-        (words[2] / 256 % 256) as u8,
-        (words[2] % 256) as u8,
-        (words[3] / 256 % 256) as u8,
-        (words[3] % 256) as u8,
-        flag(good[0]),
-        flag(good[1]),
-        flag(good[2]),
-        flag(good[3]),
+        place_number(receiver.place),
+        u8::from(receiver.held),
+        one[0],
+        one[1],
+        two[0],
+        two[1],
+        three[0],
+        three[1],
+        four[0],
+        four[1],
+        u8::from(good[0]),
+        u8::from(good[1]),
+        u8::from(good[2]),
+        u8::from(good[3]),
         receiver.run,
         receiver.bad,
     ]
@@ -108,9 +103,9 @@ fn state_bytes(receiver: Receiver) -> [u8; 25]
 
 // The byte at a place; 0 past the end.
 fn byte_at(bytes: &[u8], at: usize) -> u8
-    ensures { (result ≡ get_or bytes.now at 0) × (result < 256) }
+    ensures { result ≡ get_or bytes.now at 0 }
 {
-    if at < bytes.len() { bytes[at] } else { 0 }
+    bytes.get(at).copied().unwrap_or(0)
 }
 
 // The number that some bytes are, the highest first.
@@ -119,10 +114,8 @@ fn number_at(bytes: &[u8], from: usize, many: usize) -> u64
     ensures { result ≡ spell (bit_at bytes.now) (byte_bits * from) (byte_bits * many) }
 {
     let mut number: u64 = 0;
-    let mut i = 0;
-    while i < many {
-        number = number * 256 + (byte_at(bytes, from + i) as u64);
-        i += 1;
+    for i in 0..many {
+        number = number * 256 + u64::from(byte_at(bytes, from + i));
     }
     number
 }
@@ -143,10 +136,11 @@ fn saved_block(bytes: &[u8], i: usize) -> Judged
 fn saved_hand(bytes: &[u8]) -> Group
     ensures { result ≡ saved_hand_of bytes.now }
 {
-    let one = groups::with_block(groups::empty(), 0, saved_block(bytes, 0));
-    let two = groups::with_block(one, 1, saved_block(bytes, 1));
-    let three = groups::with_block(two, 2, saved_block(bytes, 2));
-    groups::with_block(three, 3, saved_block(bytes, 3))
+    let mut hand = groups::empty();
+    for i in 0..4 {
+        hand = groups::with_block(hand, i, saved_block(bytes, i));
+    }
+    hand
 }
 
 // The state as bytes; the bytes beyond stay.
@@ -158,12 +152,7 @@ pub fn save(receiver: Receiver, out: &mut [u8]) -> Result<(), TooShort>
     if out.len() < STATE_LENGTH {
         return Err(TooShort);
     }
-    let bytes = state_bytes(receiver);
-    let mut i = 0;
-    while i < STATE_LENGTH {
-        out[i] = bytes[i];
-        i += 1;
-    }
+    out[..STATE_LENGTH].copy_from_slice(&state_bytes(receiver));
     Ok(())
 }
 

@@ -1,14 +1,10 @@
--- The invariant of `saving::number_at`, and what falls with each turn.
+-- The invariant of `saving::number_at`.
 use Rattle.receiver.specs.Feeding.{byte_bits}
 use Rattle.bits.specs.Bytes.{bit_at}
 use Rattle.bits.specs.Spell.{spell}
-use Prim.Native.Nat.{◌*◌, ◌-◌, ◌≤◌}
+use Prim.Native.Nat.{◌*◌}
 use mathlib.Core.Path.{◌≡◌}
 use Rattle.saving.proofs.number_at.Given as goal
 
 abbrev pub invariant-loop-i : goal.invariant-loop-i
-invariant-loop-i l = (l.i ≤ l.many)
-    × (l.number ≡ spell (bit_at l.bytes) (byte_bits * l.from) (byte_bits * l.i))
-
-abbrev pub decreases-loop-i : goal.decreases-loop-i
-decreases-loop-i l = l.many - l.i
+invariant-loop-i l = l.number ≡ spell (bit_at l.bytes) (byte_bits * l.from) (byte_bits * l.i)

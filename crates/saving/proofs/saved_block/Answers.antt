@@ -19,10 +19,10 @@ overflow_cast-result c = let a = c.args in
 
 pub returns-then-byte_at-gt0 : goal.returns-then-byte_at-gt0
 returns-then-byte_at-gt0 c = rw (
-  ← c.byte_at.ensures.0,
+  ← c.byte_at.ensures,
   lt-ltb 0 c.byte_at.result c.if-byte_at-gt0.true,
   c.number_at.ensures,
 )
 
 pub returns-else-byte_at-gt0 : goal.returns-else-byte_at-gt0
-returns-else-byte_at-gt0 c = rw (← c.byte_at.ensures.0, le-ltb 0 c.byte_at.result c.if-byte_at-gt0.false)
+returns-else-byte_at-gt0 c = rw (← c.byte_at.ensures, le-ltb 0 c.byte_at.result c.if-byte_at-gt0.false)

@@ -5,8 +5,8 @@ use Rattle.capi.proofs.group.word_code.Goals as goal
 
 pub returns-then-good : goal.returns-then-good
 unfolding word_code
-returns-then-good c = rw (sym c.good.ensures ∙ c.if-good.true, c.word-word.ensures)
+returns-then-good c = rw (sym c.good.ensures ∙ c.if-good.true, c.from-word.ensures, c.word.ensures)
 
 pub returns : goal.returns
 unfolding word_code
-returns c = rw (sym c.good.ensures ∙ c.if-good.false, c.word-word.ensures)
+returns c = rw (sym c.good.ensures ∙ c.if-good.false, c.from-word.ensures, c.word.ensures)

@@ -1,22 +1,38 @@
 -- `told_bytes` is what `told_of` says, byte by byte.
+use Prim.Native.Nat.{ℕ, ◌/◌, ◌%◌, ◌<◌}
+use mathlib.Core.Path.{◌≡◌}
+use native.Mathlib.Omega.{arith}
+use Rattle.bits.proofs.Flags.{flag_number}
 use Rattle.capi_states.specs.Hearing.{told_of}
 use Rattle.capi_states.proofs.hearing.told_bytes.Goals as goal
+
+high_byte : (word : ℕ) → word < 65536 → word / 256 % 256 ≡ word / 256
+high_byte word h = omega arith
 
 pub returns : goal.returns
 unfolding told_of
 returns c =
     rw (
       c.answer_code.ensures,
-      c.mark.ensures,
+      c.from.ensures,
       c.good.ensures,
-      c.mark-2.ensures,
+      c.from-2.ensures,
       c.good-2.ensures,
-      c.mark-3.ensures,
+      c.from-3.ensures,
       c.good-3.ensures,
-      c.mark-4.ensures,
+      c.from-4.ensures,
       c.good-4.ensures,
-      c.word-one.ensures,
-      c.word-two.ensures,
-      c.word-three.ensures,
-      c.word-four.ensures,
+      c.to_be_bytes-one.ensures,
+      c.to_be_bytes-two.ensures,
+      c.to_be_bytes-three.ensures,
+      c.to_be_bytes-four.ensures,
+      high_byte c.word.result (omega arith),
+      high_byte c.word-2.result (omega arith),
+      high_byte c.word-3.result (omega arith),
+      high_byte c.word-4.result (omega arith),
+      c.word.ensures,
+      c.word-2.ensures,
+      c.word-3.ensures,
+      c.word-4.ensures,
     )
+    (simp flag_number)

@@ -1,7 +1,11 @@
--- `groups::bytes::packed` meets its promise: the thirteen bytes are quotients of two halves.
-use Rattle.groups.proofs.Packing.{thirteen_bytes}
+-- `groups::bytes::packed` meets its promise: of a number's sixteen bytes the last thirteen.
+use mathlib.Core.Path.{◌∙◌}
+use Rattle.groups.specs.Written.{four_blocks}
+use Rattle.groups.proofs.Packing.{last_thirteen}
 use Rattle.groups.proofs.bytes.packed.Goals as goal
 
 pub returns : goal.returns
-returns c = thirteen_bytes c.args.one c.args.two c.args.three c.args.four c.requires.0 c.requires.1
-    c.requires.2 c.requires.3
+unfolding four_blocks
+returns c =
+    c.copy_from_slice.ensures.after
+    ∙ rw (c.to_be_bytes-wide.ensures, last_thirteen) (rw (c.from-block.ensures, c.from.ensures, c.from-2.ensures, c.from-3.ensures, c.from-4.ensures))
