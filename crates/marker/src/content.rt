@@ -1,5 +1,5 @@
 // The content of a submission, by words alone and whatever their checks: answers 5 and 6 group by group, then 7.
-ghost use Rattle.std.specs.Prelude.{◌≡◌, ◌<◌};
+ghost use Rattle.std.specs.Prelude.{◌≡◌, ◌<◌, get_or};
 ghost use Rattle.keys.specs.Wanted.{wanted_address};
 ghost use Rattle.marker.specs.Submission.{groups_in};
 ghost use Rattle.marker.specs.Tests.{header_wrong, unlike, name_wrong, text_wrong, content_wrong};
@@ -43,11 +43,13 @@ fn take_group(
     ensures { result ≡ step_of key.bytes submission.now group held }
 {
     let block = PLACES * group;
-    let word1 = reader::word_in(submission, block);
-    let word2 = reader::word_in(submission, block + 1);
-    let word3 = reader::word_in(submission, block + 2);
-    let word4 = reader::word_in(submission, block + 3);
-    let Some(content) = read_header(key, word1, word2, word3, word4) else {
+    let words = [
+        reader::word_in(submission, block),
+        reader::word_in(submission, block + 1),
+        reader::word_in(submission, block + 2),
+        reader::word_in(submission, block + 3),
+    ];
+    let Some(content) = read_header(key, words) else {
         return Err(Verdict::BadHeader(group));
     };
     if content_wrong(key, held, content) {
@@ -57,25 +59,25 @@ fn take_group(
 }
 
 // What the group carries; nothing where PI, TP, PTY or the third word is wrong.
-fn read_header(key: Key, word1: u16, word2: u16, word3: u16, word4: u16) -> Option<Content>
-    ensures { result ≡ heading_of key.bytes word1 word2 word3 word4 }
+fn read_header(key: Key, words: [u16; 4]) -> Option<Content>
+    ensures { result ≡ heading_of key.bytes (get_or words 0 0) (get_or words 1 0) (get_or words 2 0) (get_or words 3 0) }
 {
-    if header_wrong(key, word1, word2, word3) {
+    if header_wrong(key, words) {
         return None;
     }
-    Some(groups::fields::content_from(word2, word3, word4))
+    Some(groups::fields::content_from(words[1], words[2], words[3]))
 }
 
 // PI, TP or PTY not the key's, or version 1 and third word not the key's PI.
-fn header_wrong(key: Key, word1: u16, word2: u16, word3: u16) -> bool
-    ensures { result ≡ header_wrong key.bytes word1 word2 word3 }
+fn header_wrong(key: Key, words: [u16; 4]) -> bool
+    ensures { result ≡ header_wrong key.bytes (get_or words 0 0) (get_or words 1 0) (get_or words 2 0) }
 {
-    let header = groups::fields::header_from(word1, word2);
+    let header = groups::fields::header_from(words[0], words[1]);
     let pi = keys::pi(key);
     header.pi != pi
         || header.tp != keys::tp(key)
         || header.pty != keys::pty(key)
-        || header.version == 1 && word3 != pi
+        || header.version == 1 && words[2] != pi
 }
 
 // Answer 6.

@@ -54,7 +54,8 @@ fn with_address(mask: u32, address: usize) -> u32
     mask | 1 << address
 }
 
-// Answer 7: the lowest wanted address that never came. Passed where there is none.
+// Answer 7: the lowest wanted address that never came, which the trailing zeros of the mask's complement give. Passed
+// where there is none.
 pub(crate) fn missing(key: Key, mask: u32) -> Verdict
     ensures { result ≡ missing_in key.bytes mask }
 {
