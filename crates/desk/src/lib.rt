@@ -112,7 +112,8 @@ impl<R: Runtime, E: Print> Desk<'_, R, E> {
         let _ = files::say_lost(self.errors, self.rt.write_all(text));
     }
 
-    // Says why nothing was done. That this fails is not said.
+    // Says why nothing was done. That this fails is not said. It stands here and in `files::failing`: as one for both
+    // crates it would be public, with nothing that it could promise.
     fn say(&self, words: &[u8]) {
         let _ = self.errors.write_all(words);
     }
