@@ -3,6 +3,7 @@ ghost use Rattle.std.specs.Prelude.{◌≡◌, [], ◌+◌, ◌*◌, ◌++◌, �
 ghost use Rattle.frequencies.specs.AfList.{held_of};
 ghost use Rattle.letters.specs.Letters.{joined, character_text};
 ghost use Rattle.telling.specs.Pieces.{piece_of, line_of, most_of, piece_text, line_text};
+ghost use Rattle.telling.specs.Rooms.{station_room};
 ghost use Rattle.telling.specs.Station.{pi_piece, station_line, mark_text, shown_text, flag_piece};
 ghost use Rattle.telling.specs.Station.{list_line, frequencies_to, name_text, text_text, rest_text, station_text};
 
@@ -67,7 +68,7 @@ fn list_line(station: Record) -> [Piece; 6]
 
 // Characters, one behind the other.
 fn put_characters(characters: &[u8], page: &mut Page<STATION_ROOM>)
-    requires { length page.old + 4 * length characters.now ≤ 7919 }
+    requires { length page.old + 4 * length characters.now ≤ station_room }
     ensures text { page.new ≡ page.old ++ joined character_text characters.now }
     ensures most { length page.new ≤ length page.old + 4 * length characters.now }
 {
@@ -90,7 +91,7 @@ fn mark(seen: bool) -> Piece
 
 // The marks of pairs, one behind the other.
 fn put_marks(seen: &[bool], page: &mut Page<STATION_ROOM>)
-    requires { length page.old + 4 * length seen.now ≤ 7919 }
+    requires { length page.old + 4 * length seen.now ≤ station_room }
     ensures text { page.new ≡ page.old ++ joined mark_text seen.now }
     ensures most { length page.new ≤ length page.old + 4 * length seen.now }
 {
@@ -101,7 +102,8 @@ fn put_marks(seen: &[bool], page: &mut Page<STATION_ROOM>)
 
 // A line of pieces, characters behind it, and the marks of their pairs.
 fn put_shown(line: &[Piece], characters: &[u8], seen: &[bool], page: &mut Page<STATION_ROOM>)
-    requires { length page.old + 20 * length line.now + 4 * length characters.now + 20 + 4 * length seen.now ≤ 7919 }
+    requires { length page.old + 20 * length line.now + 4 * length characters.now + 20 + 4 * length seen.now
+        ≤ station_room }
     ensures text { page.new ≡ page.old ++ (line_text (line_of line.now) ++ shown_text characters.now seen.now) }
     ensures most { length page.new
         ≤ length page.old + 20 * length line.now + 4 * length characters.now + 20 + 4 * length seen.now }
@@ -138,7 +140,7 @@ fn put_text(station: Record, page: &mut Page<STATION_ROOM>)
 
 // The frequencies held, each behind a space.
 fn put_frequencies(list: AfList, page: &mut Page<STATION_ROOM>)
-    requires { length page.old + 6120 ≤ 7919 }
+    requires { length page.old + 6120 ≤ station_room }
     ensures text { page.new ≡ page.old ++ frequencies_to list (held_of list) }
     ensures most { length page.new ≤ length page.old + 6120 }
 {

@@ -7,6 +7,7 @@ ghost use Rattle.telling.specs.Lines.{name_line, af_label, af_piece, codes_line,
 ghost use Rattle.telling.specs.Lines.{sign_piece, clock_line, local_line};
 ghost use Rattle.telling.specs.Lines.{content_line, closing_line};
 ghost use Rattle.telling.specs.Lines.{clock_of, group_text};
+ghost use Rattle.telling.specs.Rooms.{group_room};
 
 use crate::GROUP_ROOM;
 use crate::pieces::{Page, Piece};
@@ -221,7 +222,7 @@ pub(crate) fn put_local<const ROOM: usize>(label: Piece, local: Result<DateTime,
 
 // What a group's content says; `held` is the clock that its words make, if they do.
 fn put_content(content: Content, held: Option<Clock>, page: &mut Page<GROUP_ROOM>)
-    requires { length page.old + 220 ≤ 1024 }
+    requires { length page.old + 220 ≤ group_room }
     ensures text { page.new ≡ page.old ++ line_text (content_line content held) }
     ensures most { length page.new ≤ length page.old + 220 }
 {
@@ -260,7 +261,7 @@ fn put_content(content: Content, held: Option<Clock>, page: &mut Page<GROUP_ROOM
 
 // How the line of a group's content ends.
 fn put_closing(content: Content, held: Option<Clock>, page: &mut Page<GROUP_ROOM>)
-    requires { length page.old + 220 ≤ 1024 }
+    requires { length page.old + 220 ≤ group_room }
     ensures text { page.new ≡ page.old ++ line_text (closing_line content held) }
 {
     match content {
