@@ -58,6 +58,7 @@ fn pair_at(bytes: &[u8], at: usize) -> u16
 }
 
 // The group at a place.
+#[tactic(auto, unfolding(crate::specs::Stations::group_at))]
 fn group_at(bytes: &[u8], at: usize) -> Group
     requires { at + 9 ≤ length bytes.now }
     ensures { result ≡ group_at bytes.now at }
@@ -141,7 +142,7 @@ fn number(station: Record, n: usize) -> u64
 fn byte(station: Record, i: usize) -> u8
     ensures { result ≡ byte_of station i }
 {
-    ((number(station, i / 8) >> (56 - 8 * (i % 8))) % 256) as u8
+    number(station, i / 8).to_be_bytes()[i % 8]
 }
 
 // The numbers of a record into a buffer that has room for them.

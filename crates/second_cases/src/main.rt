@@ -3,7 +3,7 @@
 // and its answers in hex.
 #![tactic(auto)]
 
-ghost use Rattle.std.specs.Prelude.{◌+◌, ◌≤◌, length};
+ghost use Rattle.std.specs.Prelude.{◌≤◌, length};
 
 mod asked;
 
@@ -18,19 +18,6 @@ const ROOM: usize = 100000;
 // The numbers of an AF list that eight words can give.
 const LIST_NUMBERS: usize = 18;
 
-fn write(rt: &impl Print, word: &[u8]) -> io::Result<()> {
-    rt.write_all(word)
-}
-
-fn write_hex(rt: &impl Print, number: u64) -> io::Result<()> {
-    write(rt, b" ")?;
-    print!(rt; "{number:x}")
-}
-
-fn write_byte(rt: &impl Print, byte: u8) -> io::Result<()> {
-    write_hex(rt, byte as u64)
-}
-
 // Four words as thirteen bytes.
 fn write_group(rt: &impl Print, case: &[u8]) -> io::Result<()> {
     let mut out = [0u8; 13];
@@ -42,8 +29,8 @@ fn write_group(rt: &impl Print, case: &[u8]) -> io::Result<()> {
         &mut out,
         0,
     );
-    for i in 0..13usize {
-        write_byte(rt, out[i])?;
+    for byte in out {
+        print!(rt; " {byte:x}")?;
     }
     Ok(())
 }
@@ -51,7 +38,7 @@ fn write_group(rt: &impl Print, case: &[u8]) -> io::Result<()> {
 // The four words of the group in thirteen bytes.
 fn read_group(rt: &impl Print, bytes: &[u8]) -> io::Result<()> {
     for place in 0..4usize {
-        write_hex(rt, capi::group::bench_read_word(bytes, place) as u64)?;
+        print!(rt; " {:x}", capi::group::bench_read_word(bytes, place))?;
     }
     Ok(())
 }
@@ -59,7 +46,7 @@ fn read_group(rt: &impl Print, bytes: &[u8]) -> io::Result<()> {
 // The list of eight words.
 fn write_list(rt: &impl Print, bytes: &[u8]) -> io::Result<()> {
     for n in 0..LIST_NUMBERS {
-        write_hex(rt, capi::af::bench_af_list(bytes, n) as u64)?;
+        print!(rt; " {:x}", capi::af::bench_af_list(bytes, n))?;
     }
     Ok(())
 }
@@ -101,40 +88,35 @@ fn read_clock(case: &[u8]) -> u64 {
 // The answer of a kind that has one number.
 fn answer(case: &[u8], kind: u8) -> u64 {
     match kind {
-        1 => capi::block::bench_write_block(asked::word(case, 1), asked::byte(case, 3)) as u64,
-        2 => capi::block::bench_read_block(asked::long(case, 1)) as u64,
-        3 => capi::block::bench_judge_block(asked::long(case, 1), asked::byte(case, 5)) as u64,
-        4 => capi::group::bench_switches(asked::word(case, 1)) as u64,
+        1 => u64::from(capi::block::bench_write_block(asked::word(case, 1), asked::byte(case, 3))),
+        2 => u64::from(capi::block::bench_read_block(asked::long(case, 1))),
+        3 => u64::from(capi::block::bench_judge_block(asked::long(case, 1), asked::byte(case, 5))),
+        4 => u64::from(capi::group::bench_switches(asked::word(case, 1))),
         5 => read_clock(case),
         6 => write_clock(case),
         7 => local_date(case),
-        8 => capi::af::bench_frequency(asked::byte(case, 1)) as u64,
-        _ => capi::af::bench_code(asked::long(case, 1)) as u64,
+        8 => u64::from(capi::af::bench_frequency(asked::byte(case, 1))),
+        _ => u64::from(capi::af::bench_code(asked::long(case, 1))),
     }
 }
 
 fn run_case(rt: &impl Print, case: &[u8], number: usize) -> io::Result<()>
     requires { 17 ≤ length case.now }
 {
-    write(rt, b"case ")?;
-    rt.print(number as u64)?;
+    print!(rt; "case {number}")?;
     let kind = asked::byte(case, 0);
     match kind {
         10 => write_group(rt, case)?,
         11 => read_group(rt, &case[1..14])?,
         12 => write_list(rt, &case[1..17])?,
-        _ => write_hex(rt, answer(case, kind))?,
+        _ => print!(rt; " {:x}", answer(case, kind))?,
     }
-    write(rt, b"\n")
+    println!(rt; "")
 }
 
 fn run_cases(rt: &impl Print, input: &[u8]) -> io::Result<()> {
-    let cases = input.len() / CASE_SIZE;
-    let mut number: usize = 0;
-    while number < cases {
-        let at = CASE_SIZE * number;
-        run_case(rt, &input[at..at + CASE_SIZE], number)?;
-        number += 1;
+    for (number, case) in input.chunks_exact(CASE_SIZE).enumerate() {
+        run_case(rt, case, number)?;
     }
     Ok(())
 }
