@@ -23,7 +23,7 @@ const LIST_AT: usize = 114;
 // The bytes of all numbers.
 const RECORD_SIZE: usize = 1128;
 
-// The number of the refusal.
+// The number of the refusal: a caller in C is answered one number, and knows no `Result`.
 const TOO_SHORT: u8 = 8;
 
 // The record of the groups in some bytes, into a buffer.
@@ -145,7 +145,8 @@ fn byte(station: Record, i: usize) -> u8
     number(station, i / 8).to_be_bytes()[i % 8]
 }
 
-// The numbers of a record into a buffer that has room for them.
+// The numbers of a record into a buffer that has room for them. The places are counted, since of a buffer that is lent to
+// a chain of iterators a proof knows no more than the length.
 fn put_record(station: Record, out: &mut [u8])
     requires { record_size ≤ length out.old }
     ensures { out.new ≡ record_buffer station out.old }
