@@ -5,7 +5,7 @@ ghost use Rattle.capi.specs.Frequencies.{frequency_code, code_code, list_code, l
 
 use frequencies::AfList;
 
-// The number of the refusal.
+// The number of the refusal: a caller in C is answered one number, and knows no `Result`.
 const REFUSED: u32 = 11;
 
 // What is added to a code.

@@ -6,7 +6,7 @@ ghost use Rattle.capi.specs.Times.{clock_of, held_of, held_code, written_code, l
 
 use clock::{Clock, DateTime, OutOfRange, UtcDay};
 
-// The number of the refusal.
+// The number of the refusal: a caller in C is answered one number, and knows no `Result`.
 const REFUSED: u64 = 10;
 
 // What stands above a clock, and above a date.
@@ -45,6 +45,7 @@ pub fn bench_local_date(held: bool, day: u32, hour: u8, minute: u8, negative: bo
     local_code(clock::local_date(held.then_some(clock)))
 }
 
+// The clock whose fields a caller in C passes one by one.
 fn clock_of(day: u32, hour: u8, minute: u8, negative: bool, half: u8) -> Clock
     ensures { result ≡ clock_of day hour minute negative half }
 {

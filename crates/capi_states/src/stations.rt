@@ -23,7 +23,7 @@ const LIST_AT: usize = 114;
 // The bytes of all numbers.
 const RECORD_SIZE: usize = 1128;
 
-// The number of the refusal.
+// The number of the refusal: a caller in C is answered one number, and knows no `Result`.
 const TOO_SHORT: u8 = 8;
 
 // The record of the groups in some bytes, into a buffer.
@@ -58,6 +58,7 @@ fn pair_at(bytes: &[u8], at: usize) -> u16
 }
 
 // The group at a place.
+#[tactic(auto, unfolding(crate::specs::Stations::group_at))]
 fn group_at(bytes: &[u8], at: usize) -> Group
     requires { at + 9 ≤ length bytes.now }
     ensures { result ≡ group_at bytes.now at }
@@ -141,10 +142,11 @@ fn number(station: Record, n: usize) -> u64
 fn byte(station: Record, i: usize) -> u8
     ensures { result ≡ byte_of station i }
 {
-    ((number(station, i / 8) >> (56 - 8 * (i % 8))) % 256) as u8
+    number(station, i / 8).to_be_bytes()[i % 8]
 }
 
-// The numbers of a record into a buffer that has room for them.
+// The numbers of a record into a buffer that has room for them. The places are counted, since of a buffer that is lent to
+// a chain of iterators a proof knows no more than the length.
 fn put_record(station: Record, out: &mut [u8])
     requires { record_size ≤ length out.old }
     ensures { out.new ≡ record_buffer station out.old }

@@ -1,85 +1,20 @@
 -- The number and the values of each answer, and when the number is 10.
 use Prim.Native.Nat.{ℕ, ◌≤◌, ◌<◌}
 use mathlib.Core.Path.{◌≡◌, refl, sym, ap, ◌∙◌}
-use mathlib.Core.Bool.{Bool, true, false, cond, not, or-true, true≢false}
+use mathlib.Core.Bool.{Bool, true, false, or-true, true≢false}
 use mathlib.Core.Logic.{◌↔◌, inl, inr}
-use mathlib.Core.List.{List, []}
 use native.Mathlib.Decide.{dec_lt}
 use native.Mathlib.Omega.{arith}
 use borrow.Author.Tests.{lt-ltb, le-ltb}
 use Rattle.clock.specs.declared.Clock.{Clock}
-use Rattle.clock.specs.declared.DateTime.{DateTime}
-use Rattle.clock.specs.declared.OutOfRange.{OutOfRange}
-use Rattle.std.specs.Prelude.{Option, Some, None, Result, Ok, Err}
+use Rattle.std.specs.Prelude.{Option, Some, None, Ok, Err}
 use Rattle.clock.specs.Range.{InDays, in_days, in_range, last_pty}
-use Rattle.clock.specs.Words.{clock_in, read_of, number_of_held, values_of_held, clock_values}
+use Rattle.clock.specs.Words.{clock_in, read_of}
 use Rattle.clock.specs.Words.{NoWords, write_refused, write_of}
-use Rattle.clock.specs.Words.{number_of_written, values_of_written, words_of, out_of_range}
+use Rattle.clock.specs.Words.{number_of_written, words_of, out_of_range}
 use Rattle.clock.specs.Local.{local_time_of, local_shown, NoDate, date_refused, local_date_of}
-use Rattle.clock.specs.Local.{number_of_local, values_of_local, date_time_values, date_values}
+use Rattle.clock.specs.Local.{number_of_local}
 use Rattle.clock.proofs.Ranges.{days_in_true, days_out_false, range_in_true, range_out_false}
-
--- ---- Each answer that meets its equation has its number and values
-
-pub read_said : (word2 word3 word4 : ℕ) (r : Option Clock) → r ≡ read_of word2 word3 word4 →
-    (r ≡ read_of word2 word3 word4)
-    × (number_of_held r ≡ 0)
-    × (values_of_held r ≡ cond (in_range (clock_in word2 word3 word4)) (clock_values (clock_in word2 word3 word4)) [])
-unfolding read_of number_of_held values_of_held
-read_said word2 word3 word4 r e = (
-  e,
-  ap number_of_held e ∙ number (in_range (clock_in word2 word3 word4)),
-  ap values_of_held e ∙ values (in_range (clock_in word2 word3 word4)),
-)
-  where
-    number : (t : Bool) → number_of_held (cond (not t) None (Some (clock_in word2 word3 word4))) ≡ 0
-    number true = refl
-    number false = refl
-
-    values : (t : Bool) →
-        values_of_held (cond (not t) None (Some (clock_in word2 word3 word4)))
-        ≡ cond t (clock_values (clock_in word2 word3 word4)) []
-    values true = refl
-    values false = refl
-
-pub write_said : (pi : ℕ) (tp : Bool) (pty : ℕ) (clock : Clock) (r : Result (List ℕ) OutOfRange) → r ≡ write_of pi tp pty clock →
-    (r ≡ write_of pi tp pty clock)
-    × (number_of_written r ≡ cond (write_refused pty clock) 10 0)
-    × (values_of_written r ≡ cond (write_refused pty clock) [] (words_of pi tp pty clock))
-unfolding write_of number_of_written values_of_written
-write_said pi tp pty clock r e =
-    (e, ap number_of_written e ∙ number (write_refused pty clock), ap values_of_written e ∙ values (write_refused pty clock))
-  where
-    answer : Bool → Result (List ℕ) OutOfRange
-    answer t = cond t (Err out_of_range) (Ok (words_of pi tp pty clock))
-
-    number : (t : Bool) → number_of_written (answer t) ≡ cond t 10 0
-    number true = refl
-    number false = refl
-
-    values : (t : Bool) → values_of_written (answer t) ≡ cond t [] (words_of pi tp pty clock)
-    values true = refl
-    values false = refl
-
-pub date_said : (held : Option Clock) (r : Result DateTime OutOfRange) → r ≡ local_date_of held →
-    (r ≡ local_date_of held)
-    × (number_of_local r ≡ cond (date_refused held) 10 0)
-    × (values_of_local r ≡ cond (date_refused held) [] (date_values held))
-unfolding local_date_of date_refused number_of_local values_of_local date_values
-date_said None r e = (e, ap number_of_local e, ap values_of_local e)
-date_said (Some clock) r e =
-    (e, ap number_of_local e ∙ number (date_refused (Some clock)), ap values_of_local e ∙ values (date_refused (Some clock)))
-  where
-    answer : Bool → Result DateTime OutOfRange
-    answer t = cond t (Err out_of_range) (Ok (local_shown (local_time_of clock)))
-
-    number : (t : Bool) → number_of_local (answer t) ≡ cond t 10 0
-    number true = refl
-    number false = refl
-
-    values : (t : Bool) → values_of_local (answer t) ≡ cond t [] (date_time_values (local_shown (local_time_of clock)))
-    values true = refl
-    values false = refl
 
 ten-not-zero : ◌≡◌ {A = ℕ} 0 10 → ⊥
 ten-not-zero e = omega arith
@@ -133,7 +68,6 @@ date-none = refl
 -- Writing: a clock field out of range, or PTY over 31.
 pub write_10 : (pi : ℕ) (tp : Bool) (pty : ℕ) (clock : Clock) →
     (number_of_written (write_of pi tp pty clock) ≡ 10) ↔ NoWords pty clock
-unfolding number_of_written
 write_10 pi tp pty clock = (to (in_range clock) refl (dec_lt last_pty pty), from)
   where
     words : in_range clock ≡ true → pty ≤ last_pty → number_of_written (write_of pi tp pty clock) ≡ 10 → ⊥
@@ -154,7 +88,6 @@ write_10 pi tp pty clock = (to (in_range clock) refl (dec_lt last_pty pty), from
 
 -- The date: no clock held, or the UTC day or the local day out of range; nothing else is refused.
 pub date_10 : (held : Option Clock) → (number_of_local (local_date_of held) ≡ 10) ↔ NoDate held
-unfolding number_of_local
 date_10 None = (λ e. tt, λ u. ap number_of_local (sym date-none))
 date_10 (Some clock) = (to (in_days clock.day.0) refl (in_days (local_time_of clock).day.0) refl, from)
   where

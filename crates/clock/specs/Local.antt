@@ -72,7 +72,7 @@ local_date_of (Some clock) =
     cond (date_refused (Some clock)) (Err out_of_range) (Ok (local_shown (local_time_of clock)))
 
 -- The table's number of each case.
-unfoldable pub number_of_local : Result DateTime OutOfRange → ℕ
+abbrev pub number_of_local : Result DateTime OutOfRange → ℕ
 number_of_local (Err e) = 10
 number_of_local (Ok at) = 0
 
@@ -81,11 +81,11 @@ abbrev pub date_time_values : DateTime → List ℕ
 date_time_values at = at.year ∷ at.month ∷ at.day ∷ at.weekday ∷ at.hour ∷ at.minute ∷ []
 
 -- The values of each case.
-unfoldable pub values_of_local : Result DateTime OutOfRange → List ℕ
+abbrev pub values_of_local : Result DateTime OutOfRange → List ℕ
 values_of_local (Err e) = []
 values_of_local (Ok at) = date_time_values at
 
 -- The values of the clock that is held, if one is: its local date and time.
-unfoldable pub date_values : Option Clock → List ℕ
+abbrev pub date_values : Option Clock → List ℕ
 date_values None = []
 date_values (Some clock) = date_time_values (local_shown (local_time_of clock))

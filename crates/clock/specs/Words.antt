@@ -38,7 +38,7 @@ read_of word2 word3 word4 =
     cond (not (in_range (clock_in word2 word3 word4))) None (Some (clock_in word2 word3 word4))
 
 -- Reading is no refusal of the table: number 0 in both cases.
-unfoldable pub number_of_held : Option Clock → ℕ
+abbrev pub number_of_held : Option Clock → ℕ
 number_of_held (Some clock) = 0
 number_of_held None = 0
 
@@ -47,7 +47,7 @@ abbrev pub clock_values : Clock → List ℕ
 clock_values clock =
     clock.day.0 ∷ clock.hour ∷ clock.minute ∷ cond clock.negative 1 0 ∷ clock.half ∷ []
 
-unfoldable pub values_of_held : Option Clock → List ℕ
+abbrev pub values_of_held : Option Clock → List ℕ
 values_of_held (Some clock) = clock_values clock
 values_of_held None = []
 
@@ -87,12 +87,12 @@ unfoldable pub write_of : ℕ → Bool → ℕ → Clock → Result (List ℕ) O
 write_of pi tp pty clock = cond (write_refused pty clock) (Err out_of_range) (Ok (words_of pi tp pty clock))
 
 -- The table's number of each case.
-unfoldable pub number_of_written : Result (List ℕ) OutOfRange → ℕ
+abbrev pub number_of_written : Result (List ℕ) OutOfRange → ℕ
 number_of_written (Err e) = 10
 number_of_written (Ok words) = 0
 
 -- The values of each case: the four words.
-unfoldable pub values_of_written : Result (List ℕ) OutOfRange → List ℕ
+abbrev pub values_of_written : Result (List ℕ) OutOfRange → List ℕ
 values_of_written (Err e) = []
 values_of_written (Ok words) = words
 

@@ -37,6 +37,7 @@ pub(crate) fn date(local: LocalDay) -> CalendarDate
 }
 
 // Monday is 1.
+#[tactic(auto, unfolding(crate::specs::Calendar::weekday_of))]
 pub(crate) fn weekday(local: LocalDay) -> u8
     ensures { result ≡ weekday_of local }
 {

@@ -6,7 +6,7 @@
 ghost use Rattle.std.specs.Prelude.{◌≡◌, ◌+◌, ◌-◌, ◌^◌, ◌≤◌, ◌<◌, cond, []};
 ghost use Rattle.clock.specs.Range.{InDays, InRange, in_range, last_pty};
 ghost use Rattle.clock.specs.Words.{clock_in, read_of, number_of_held, values_of_held, clock_values};
-ghost use Rattle.clock.specs.Words.{write_of, word2_of, word3_of, word4_of, number_of_written, values_of_written};
+ghost use Rattle.clock.specs.Words.{write_of, number_of_written, values_of_written};
 ghost use Rattle.clock.specs.Words.{write_refused, words_of};
 ghost use Rattle.clock.specs.Local.{local_date_of, local_time_of, date_time_of, minutes_a_day};
 ghost use Rattle.clock.specs.Local.{date_refused, date_values, number_of_local, values_of_local};
@@ -83,18 +83,17 @@ const MINUTES_AN_HOUR: u32 = 60;
 const MINUTES_A_HALF: u32 = 30;
 
 // The clock in words 2, 3 and 4 of a 4A, if it is in range.
+#[tactic(auto, unfolding(crate::specs::Words::read_of))]
 pub fn read(word2: u16, word3: u16, word4: u16) -> Option<Clock>
     ensures { (result ≡ read_of word2 word3 word4) × (number_of_held result ≡ 0)
-        × (values_of_held result ≡ cond (in_range (clock_in word2 word3 word4)) (clock_values (clock_in word2 word3 word4)) []) }
+        × (values_of_held result
+        ≡ cond (in_range (clock_in word2 word3 word4)) (clock_values (clock_in word2 word3 word4)) []) }
 {
     let clock = clock_in(word2, word3, word4);
-    if range::in_range(clock) {
-        Some(clock)
-    } else {
-        None
-    }
+    range::in_range(clock).then_some(clock)
 }
 
+#[tactic(auto, unfolding(crate::specs::Words::clock_in))]
 fn clock_in(word2: u16, word3: u16, word4: u16) -> Clock
     ensures { result ≡ clock_in word2 word3 word4 }
 {
@@ -116,32 +115,26 @@ pub fn write(pi: u16, tp: bool, pty: u8, clock: Clock) -> Result<[u16; 4], OutOf
     if range::LAST_PTY < pty || !range::in_range(clock) {
         return Err(OutOfRange);
     }
-    Ok([pi, word2(tp, pty, clock), word3(clock), word4(clock)])
+    Ok(words(pi, tp, pty, clock))
 }
 
-fn word2(tp: bool, pty: u8, clock: Clock) -> u16
+// The four words, of a clock and a PTY in range.
+fn words(pi: u16, tp: bool, pty: u8, clock: Clock) -> [u16; 4]
     requires { InRange clock × (pty ≤ last_pty) }
-    ensures { result ≡ word2_of tp pty clock }
+    ensures { result ≡ words_of pi tp pty clock }
 {
-    TYPE_4A + u16::from(tp) * TP_AT + u16::from(pty) * PTY_AT + (clock.day.0 / DAY_HIGH) as u16
-}
-
-fn word3(clock: Clock) -> u16
-    requires { InRange clock }
-    ensures { result ≡ word3_of clock }
-{
-    (clock.day.0 % DAY_HIGH) as u16 * 2 + u16::from(clock.hour) / HOUR_HIGH
-}
-
-fn word4(clock: Clock) -> u16
-    requires { InRange clock }
-    ensures { result ≡ word4_of clock }
-{
+    let day = clock.day.0;
+    let hour = u16::from(clock.hour);
     let sign = u16::from(clock.negative && clock.half != 0);
-    u16::from(clock.hour) % HOUR_HIGH * HOUR_AT
-        + u16::from(clock.minute) * MINUTE_AT
-        + sign * SIGN_AT
-        + u16::from(clock.half)
+    [
+        pi,
+        TYPE_4A + u16::from(tp) * TP_AT + u16::from(pty) * PTY_AT + (day / DAY_HIGH) as u16,
+        (day % DAY_HIGH) as u16 * 2 + hour / HOUR_HIGH,
+        hour % HOUR_HIGH * HOUR_AT
+            + u16::from(clock.minute) * MINUTE_AT
+            + sign * SIGN_AT
+            + u16::from(clock.half),
+    ]
 }
 
 // The local date and time of the clock that is held.
@@ -163,6 +156,7 @@ pub fn local_date(held: Option<Clock>) -> Result<DateTime, OutOfRange>
 }
 
 // The offset rule: the only way from a UTC day to a local day.
+#[tactic(auto, unfolding(crate::specs::Local::local_time_of, crate::specs::Local::local_minutes))]
 fn local_time(clock: Clock) -> LocalTime
     requires { InDays clock.day.0 }
     ensures { result ≡ local_time_of clock }
@@ -189,6 +183,7 @@ fn shifted(minutes: u32, negative: bool, offset: u32) -> u32
     }
 }
 
+#[tactic(auto, unfolding(crate::specs::Local::date_time_of))]
 fn date_time(date: CalendarDate, weekday: u8, minutes: u32) -> DateTime
     requires { minutes < minutes_a_day }
     ensures { result ≡ date_time_of date weekday minutes }

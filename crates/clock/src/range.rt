@@ -16,12 +16,14 @@ const LAST_HALF: u8 = 24;
 
 pub(crate) const LAST_PTY: u8 = 31;
 
+#[tactic(auto, unfolding(crate::specs::Range::in_days))]
 pub(crate) fn in_days(day: u32) -> bool
     ensures { result ≡ in_days day }
 {
     (FIRST_DAY..=LAST_DAY).contains(&day)
 }
 
+#[tactic(auto, unfolding(crate::specs::Range::in_range))]
 pub(crate) fn in_range(clock: Clock) -> bool
     ensures { result ≡ in_range clock }
 {

@@ -13,10 +13,10 @@ use Rattle.frequencies.specs.declared.AfList.{AfList}
 use Rattle.frequencies.proofs.AfTests.{true_by, false_by}
 
 -- a frequency is among some if one of them is the same
-pub is_in-any : (k : ℕ) (l : List ℕ) → list_any (λ x. eqb x k) l ≡ is_in k l
+pub is_in_any : (k : ℕ) (l : List ℕ) → list_any (λ x. eqb x k) l ≡ is_in k l
 unfolding is_in
-is_in-any k [] = refl
-is_in-any k (x ∷ l) = ap (λ (t : Bool). eqb x k || t) (is_in-any k l)
+is_in_any k [] = refl
+is_in_any k (x ∷ l) = ap (λ (t : Bool). eqb x k || t) (is_in_any k l)
 
 module _ (list : AfList) (k : ℕ) where
   -- as many held as expected: no change

@@ -7,14 +7,13 @@ use native.Mathlib.Omega.{arith}
 use borrow.Author.Tests.{ltb-true, ltb-false, leb-true, lt-ltb, le-ltb}
 use lib.Dec.{leb, ltb}
 use Rattle.std.specs.Prelude.{Result, Ok, Err}
-use Rattle.frequencies.specs.Frequency.{refused, first_code, last_code, khz_of, frequency_refusal, code_refusal}
-use Rattle.frequencies.specs.Frequency.{no_frequency, frequency_of, frequency_number, frequency_value}
+use Rattle.frequencies.specs.Frequency.{first_code, last_code, khz_of, frequency_refusal, code_refusal}
+use Rattle.frequencies.specs.Frequency.{no_frequency, frequency_of, frequency_number}
 use Rattle.frequencies.specs.Frequency.{steps_above, below_codes, above_codes, between_codes, no_code}
-use Rattle.frequencies.specs.Frequency.{code_of, code_number, code_value}
+use Rattle.frequencies.specs.Frequency.{code_of, code_number}
 use Rattle.frequencies.specs.AfList.{none_expected, last_count, is_count, af_code}
-use Rattle.frequencies.proofs.AfTests.{true_by, false_by, and_left, or-none, or_some, cond_map}
+use Rattle.frequencies.proofs.AfTests.{false_by, and_left, or-none, or_some}
 use Rattle.frequencies.specs.declared.NoFrequency.{NoFrequency}
-use Rattle.frequencies.specs.declared.NoCode.{NoCode}
 use Rattle.frequencies.specs.declared.Meaning.{Meaning}
 use Rattle.frequencies.specs.declared.Meaning.TheVariants.{Count, Frequency, NoChange}
 
@@ -45,20 +44,6 @@ module _ (c : ℕ) where
       back (inl h) = simp (lt-ltb c first_code (omega arith))
       back (inr h) = simp (lt-ltb last_code c (omega arith), or-true)
 
-  -- the equation says the number and the value
-  pub frequency_promised :
-      (r : Result ℕ NoFrequency) →
-      r ≡ frequency_of c →
-      (r ≡ frequency_of c)
-      × (frequency_number r ≡ cond (no_frequency c) refused 0)
-      × (frequency_value r ≡ cond (no_frequency c) 0 (khz_of c))
-  unfolding frequency_of
-  frequency_promised r e = (
-    e,
-    ap frequency_number e ∙ cond_map frequency_number (no_frequency c) (Err frequency_refusal) (Ok (khz_of c)),
-    ap frequency_value e ∙ cond_map frequency_value (no_frequency c) (Err frequency_refusal) (Ok (khz_of c)),
-  )
-
 -- the frequency that a meaning gives
 abbrev pub answered : Meaning → Result ℕ NoFrequency
 answered (Count n) = Err frequency_refusal
@@ -84,10 +69,6 @@ frequency_meant c = chosen (c - none_expected) (khz_of c) (is_count c) (no_frequ
     chosen n k false true h = refl
     chosen n k false false h = refl
 
--- .. also where the meaning is known by its case
-pub frequency-told : (c : ℕ) {m n : Meaning} → m ≡ af_code c → m ≡ n → answered n ≡ frequency_of c
-frequency-told c e f = ap answered (sym f ∙ e) ∙ frequency_meant c
-
 -- the code of a frequency
 
 -- kHz that a code has: none of the three tests of `no_code` holds
@@ -100,29 +81,15 @@ code-there k e =
     let even : between_codes k ≡ false = tests.1 in
     (omega (arith, ltb-false), omega (arith, ltb-false), omega (arith, ltb-false))
 
-module _ (k : ℕ) where
-  -- kHz below the first code's, above the last code's or between two: refused
-  pub code_below : k < 87600 → code_of k ≡ Err code_refusal
-  unfolding code_of
-  code_below h = simp (true_by (below_codes k) (λ e. omega (arith, ltb-false)))
-
-  pub code_above : 107900 < k → code_of k ≡ Err code_refusal
-  unfolding code_of
-  code_above h = simp (true_by (above_codes k) (λ e. omega (arith, ltb-false)), or-true)
-
-  pub code_between : 0 < (k - 87500) % 100 → code_of k ≡ Err code_refusal
-  unfolding code_of
-  code_between h = simp (true_by (between_codes k) (λ e. omega (arith, ltb-false)), or-true)
-
-  -- any others: as many steps of 100 kHz above 87,500
-  pub code_steps : 87600 ≤ k → k ≤ 107900 → (k - 87500) % 100 ≡ 0 → code_of k ≡ Ok ((k - 87500) / 100)
-  unfolding code_of
-  code_steps lo hi even =
-      simp (
-        false_by (below_codes k) (λ e. omega (arith, ltb-true)),
-        false_by (above_codes k) (λ e. omega (arith, ltb-true)),
-        false_by (between_codes k) (λ e. omega (arith, ltb-true)),
-      )
+-- kHz that a code has are as many steps of 100 kHz above 87,500
+pub code_steps : (k : ℕ) → 87600 ≤ k → k ≤ 107900 → (k - 87500) % 100 ≡ 0 → code_of k ≡ Ok ((k - 87500) / 100)
+unfolding code_of
+code_steps k lo hi even =
+    simp (
+      false_by (below_codes k) (λ e. omega (arith, ltb-true)),
+      false_by (above_codes k) (λ e. omega (arith, ltb-true)),
+      false_by (between_codes k) (λ e. omega (arith, ltb-true)),
+    )
 
 -- the code whose kHz these are
 pub code-given : (c : ℕ) → 1 ≤ c → c ≤ 204 → code_of (87500 + 100 * c) ≡ Ok c
@@ -167,18 +134,6 @@ module _ (k : ℕ) where
       back false e none =
           let there = code-there k e in
           absurd (none (steps_above k) (omega (arith, there)) (omega (arith, there)) (omega (arith, there)))
-
-  -- the equation says the number and the value
-  pub code_promised :
-      (r : Result ℕ NoCode) →
-      r ≡ code_of k →
-      (r ≡ code_of k) × (code_number r ≡ cond (no_code k) refused 0) × (code_value r ≡ cond (no_code k) 0 (steps_above k))
-  unfolding code_of
-  code_promised r e = (
-    e,
-    ap code_number e ∙ cond_map code_number (no_code k) (Err code_refusal) (Ok (steps_above k)),
-    ap code_value e ∙ cond_map code_value (no_code k) (Err code_refusal) (Ok (steps_above k)),
-  )
 
 -- inverse to each other
 

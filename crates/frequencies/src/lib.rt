@@ -63,6 +63,7 @@ pub struct AfList {
 }
 
 // What a code means to a list.
+#[tactic(auto, unfolding(crate::specs::AfList::af_code))]
 fn af_code(code: u8) -> Meaning
     ensures { result ≡ af_code code }
 {
@@ -75,15 +76,19 @@ fn af_code(code: u8) -> Meaning
 }
 
 // What the two codes of a word mean together: each by itself, high byte first.
+#[tactic(auto, unfolding(crate::specs::AfList::af_word))]
 fn af_word(word: u16) -> WordMeaning
     ensures { result ≡ af_word word }
 {
-    let first = af_code((word / 256) as u8);
-    let second = af_code((word % 256) as u8);
-    WordMeaning { first, second }
+    let [high, low] = word.to_be_bytes();
+    WordMeaning {
+        first: af_code(high),
+        second: af_code(low),
+    }
 }
 
 // The frequency of a code, or refusal 11: the one that it means to a list.
+#[tactic(auto, unfolding(crate::specs::Frequency::frequency_of, crate::specs::AfList::af_code))]
 pub fn frequency(code: u8) -> Result<u32, NoFrequency>
     ensures { (result ≡ frequency_of code)
         × (frequency_number result ≡ cond (no_frequency code) refused 0)
@@ -96,6 +101,7 @@ pub fn frequency(code: u8) -> Result<u32, NoFrequency>
 }
 
 // The code of a frequency, or refusal 11.
+#[tactic(auto, unfolding(crate::specs::Frequency::code_of))]
 pub fn code(khz: u32) -> Result<u8, NoCode>
     ensures { (result ≡ code_of khz)
         × (code_number result ≡ cond (no_code khz) refused 0)
@@ -137,6 +143,7 @@ fn appended(list: AfList, khz: u32) -> AfList
 }
 
 // The list after one meaning.
+#[tactic(auto, unfolding(crate::specs::AfList::told_of))]
 fn told(list: AfList, meaning: Meaning) -> AfList
     ensures { result ≡ told_of list meaning }
 {
@@ -155,6 +162,7 @@ pub fn empty() -> AfList
 }
 
 // The list after a word: its two codes, high byte first.
+#[tactic(auto, unfolding(crate::specs::AfList::taken_of))]
 pub fn taken(list: AfList, word: u16) -> AfList
     ensures { result ≡ taken_of list word }
 {

@@ -18,11 +18,6 @@ const ROOM: usize = 100000;
 // The numbers of an AF list that eight words can give.
 const LIST_NUMBERS: usize = 18;
 
-// An answer in hex, behind a space.
-fn write_hex(rt: &impl Print, number: u64) -> io::Result<()> {
-    print!(rt; " {number:x}")
-}
-
 // Four words as thirteen bytes.
 fn write_group(rt: &impl Print, case: &[u8]) -> io::Result<()> {
     let mut out = [0u8; 13];
@@ -35,7 +30,7 @@ fn write_group(rt: &impl Print, case: &[u8]) -> io::Result<()> {
         0,
     );
     for byte in out {
-        write_hex(rt, u64::from(byte))?;
+        print!(rt; " {byte:x}")?;
     }
     Ok(())
 }
@@ -43,7 +38,7 @@ fn write_group(rt: &impl Print, case: &[u8]) -> io::Result<()> {
 // The four words of the group in thirteen bytes.
 fn read_group(rt: &impl Print, bytes: &[u8]) -> io::Result<()> {
     for place in 0..4usize {
-        write_hex(rt, u64::from(capi::group::bench_read_word(bytes, place)))?;
+        print!(rt; " {:x}", capi::group::bench_read_word(bytes, place))?;
     }
     Ok(())
 }
@@ -51,7 +46,7 @@ fn read_group(rt: &impl Print, bytes: &[u8]) -> io::Result<()> {
 // The list of eight words.
 fn write_list(rt: &impl Print, bytes: &[u8]) -> io::Result<()> {
     for n in 0..LIST_NUMBERS {
-        write_hex(rt, u64::from(capi::af::bench_af_list(bytes, n)))?;
+        print!(rt; " {:x}", capi::af::bench_af_list(bytes, n))?;
     }
     Ok(())
 }
@@ -114,7 +109,7 @@ fn run_case(rt: &impl Print, case: &[u8], number: usize) -> io::Result<()>
         10 => write_group(rt, case)?,
         11 => read_group(rt, &case[1..14])?,
         12 => write_list(rt, &case[1..17])?,
-        _ => write_hex(rt, answer(case, kind))?,
+        _ => print!(rt; " {:x}", answer(case, kind))?,
     }
     println!(rt)
 }

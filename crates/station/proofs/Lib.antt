@@ -1,6 +1,5 @@
 -- The laws of the crate `station`.
 pub mod Holding
-pub mod Numbers
 pub mod Lists
 pub mod Runs
 pub mod Storing

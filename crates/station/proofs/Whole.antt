@@ -178,7 +178,8 @@ module _ (gs : List Group) (pi pty : ℕ) (tp : Bool) (all : Every (SaysHeader p
 
   -- the whole text is held with its flag, and each pair of it is marked seen
   pub text_held : (flag : Bool) (text : List ℕ) → length text ≡ text_size → Every (SaysText flag text) gs → TextCame gs →
-      ((updated_all fresh_of gs).text.pairs.characters ≡ text) × ((updated_all fresh_of gs).text.pairs.seen ≡ replicate text_pairs true)
+      ((updated_all fresh_of gs).text.pairs.characters ≡ text)
+      × ((updated_all fresh_of gs).text.pairs.seen ≡ replicate text_pairs true)
       × ((updated_all fresh_of gs).text.flag ≡ Some flag)
   unfolding record_over text_over
   text_held flag text size told came = rw (record_agrees gs, record_over_lem) (characters, marks, last-flag)

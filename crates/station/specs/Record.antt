@@ -84,18 +84,18 @@ held_clock_of station = station.clock
 
 -- ---- numbers and values of the cases: none of them is a refusal of the table
 
-unfoldable pub number_of_pi : Option ℕ → ℕ
+abbrev pub number_of_pi : Option ℕ → ℕ
 number_of_pi (Some pi) = 0
 number_of_pi None = 0
 
-unfoldable pub values_of_pi : Option ℕ → List ℕ
+abbrev pub values_of_pi : Option ℕ → List ℕ
 values_of_pi (Some pi) = pi ∷ []
 values_of_pi None = []
 
-unfoldable pub number_of_flag : Option Bool → ℕ
+abbrev pub number_of_flag : Option Bool → ℕ
 number_of_flag (Some flag) = 0
 number_of_flag None = 0
 
-unfoldable pub values_of_flag : Option Bool → List ℕ
+abbrev pub values_of_flag : Option Bool → List ℕ
 values_of_flag (Some flag) = cond flag 1 0 ∷ []
 values_of_flag None = []

@@ -24,7 +24,8 @@ impl<const CHARACTERS: usize, const PAIRS: usize> Pairs<CHARACTERS, PAIRS> {
         }
     }
 
-    // With the two characters of a word stored as a pair that is marked seen. Nothing changes where there is no such pair.
+    // With the two characters of a word stored as a pair that is marked seen; unchanged where there is no such pair.
+    #[tactic(auto, unfolding(crate::specs::Update::pairs_stored))]
     pub(crate) fn stored(self, pair: usize, word: u16) -> Self
         requires { CHARACTERS ≡ 2 * PAIRS }
         ensures { result ≡ pairs_stored self.entry pair word }

@@ -12,6 +12,7 @@ use clock::{Clock, DateTime, OutOfRange};
 use frequencies::AfList;
 
 // The PI held, or none.
+#[tactic(auto, unfolding(crate::specs::Record::number_of_pi))]
 pub fn pi(station: Record) -> Option<u16>
     ensures { (result ≡ pi_of station) × (number_of_pi result ≡ 0) × (values_of_pi result ≡ values_of_pi station.pi) }
 {
@@ -61,6 +62,7 @@ pub fn text_seen(station: Record) -> [bool; crate::TEXT_PAIRS]
 }
 
 // The text flag held, or none.
+#[tactic(auto, unfolding(crate::specs::Record::number_of_flag))]
 pub fn text_flag(station: Record) -> Option<bool>
     ensures { (result ≡ text_flag_of station) × (number_of_flag result ≡ 0)
         × (values_of_flag result ≡ values_of_flag station.text.flag) }
@@ -76,6 +78,7 @@ pub fn af_list(station: Record) -> AfList
 }
 
 // The clock held, or none.
+#[tactic(auto, unfolding(clock::specs::Words::number_of_held))]
 pub fn held_clock(station: Record) -> Option<Clock>
     ensures { (result ≡ held_clock_of station) × (number_of_held result ≡ 0)
         × (values_of_held result ≡ values_of_held station.clock) }

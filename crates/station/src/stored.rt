@@ -1,4 +1,5 @@
-// What a group's content does to each part of the record: name, text, AF list, clock.
+// What a group's content does to each part of the record: name, text, AF list, clock. Each part names every content, so
+// that it is looked at again when there is a new one.
 ghost use Rattle.std.specs.Prelude.{◌≡◌};
 ghost use Rattle.groups.specs.Group.{word_of};
 ghost use Rattle.station.specs.Update.{name_after, text_stored, text_for, text_after};

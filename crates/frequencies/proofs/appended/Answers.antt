@@ -1,21 +1,24 @@
 -- `appended` is the list that `appended_of` says: each test is one law.
-use mathlib.Core.Path.{◌≡◌, sym, ap, ◌∙◌}
-use mathlib.Core.Bool.{Bool, false}
-use mathlib.Core.List.{List}
-use lib.Dec.{eqb}
-use Rattle.std.specs.List.{list_any}
-use lib.ListN.{take}
 use Prim.Native.Nat.{ℕ}
+use mathlib.Core.Bool.{Bool}
+use mathlib.Core.List.{List}
+use mathlib.Core.Path.{◌≡◌, sym, ap, ◌∙◌}
 use native.Mathlib.Omega.{arith}
+use lib.Dec.{eqb}
+use lib.ListN.{take}
+use Rattle.std.specs.List.{list_any}
 use Rattle.frequencies.specs.AfList.{is_in}
-use Rattle.frequencies.proofs.AfLists.{is_in-any, append_enough, append_full, append_known, append_new}
+use Rattle.frequencies.proofs.AfLists.{is_in_any, append_enough, append_full, append_known, append_new}
 use Rattle.frequencies.proofs.appended.Goals as goal
-use Rattle.frequencies.proofs.appended.Goals.{then-list-via-then-list, then-list-via-else-list+then-at-ge-SLOTS, then-list-via-else-list+else-at-ge-SLOTS+then-contains}
+use Rattle.frequencies.proofs.appended.Goals.{then-list-via-then-list}
+use Rattle.frequencies.proofs.appended.Goals.{then-list-via-else-list+then-at-ge-SLOTS}
+use Rattle.frequencies.proofs.appended.Goals.{then-list-via-else-list+else-at-ge-SLOTS+then-contains}
 
 -- what the search through the slots that are held tells
-searched : (k : ℕ) (slots : List ℕ) {at held : ℕ} → at ≡ held → (found : Bool) →
-    found ≡ list_any (λ x. eqb x k) (take at slots) → is_in k (take held slots) ≡ found
-searched k slots {at} e found f = ap (λ (n : ℕ). is_in k (take n slots)) (sym e) ∙ sym (is_in-any k (take at slots)) ∙ sym f
+searched : (k : ℕ) (slots : List ℕ) {at held : ℕ} (found : Bool) →
+    at ≡ held → found ≡ list_any (λ x. eqb x k) (take at slots) → is_in k (take held slots) ≡ found
+searched k slots {at} found e f =
+    ap (λ (n : ℕ). is_in k (take n slots)) (sym e) ∙ sym (is_in_any k (take at slots)) ∙ sym f
 
 pub returns-then-list : goal.returns-then-list
 returns-then-list c =
@@ -24,12 +27,9 @@ returns-then-list c =
       | then-list-via-then-list w ↦ sym (append_enough args.list args.khz (omega arith))
       | then-list-via-else-list+then-at-ge-SLOTS w ↦ sym (append_full args.list args.khz (omega arith))
       | then-list-via-else-list+else-at-ge-SLOTS+then-contains w ↦
-          sym (append_known args.list args.khz (searched args.khz args.list.khz c.from-at.ensures _ w.contains.ensures.value ∙ w.if-contains.true))
+          let found = searched args.khz args.list.khz _ c.from-at.ensures w.contains.ensures.value in
+          sym (append_known args.list args.khz (found ∙ w.if-contains.true))
     ]
 
 pub returns : goal.returns
-returns c =
-    let args = c.args in
-    let new : is_in args.khz (take args.list.held args.list.khz) ≡ false =
-    searched args.khz args.list.khz c.from-at.ensures _ c.contains.ensures.value ∙ c.if-contains.false in
-    rw c.from-at.ensures (sym (append_new args.list args.khz (omega arith) (omega arith) new))
+returns c = grind (arith, searched, append_new)

@@ -52,6 +52,7 @@ returns c =
     let l = c.loop-pair in
     let n = length l.yielded in
     let steps = c.in-None.ensures.steps in
-    let few : length s < 2 * n + 2 = omega (arith, steps.1.0, l.invariant.2, ap length l.invariant.1, length-drop (2 * n) s) in
+    let few : length s < 2 * n + 2 =
+    omega (arith, steps.1.0, l.invariant.2, ap length l.invariant.1, length-drop (2 * n) s) in
     let all : n ≡ length s / 2 = omega (arith, l.invariant.3) in
     l.invariant.0 ∙ ap (list_after s) all
