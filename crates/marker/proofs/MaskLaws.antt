@@ -3,7 +3,7 @@
 use Prim.Native.Nat.{ℕ, zero, suc, ◌+◌, ◌*◌, ◌-◌, ◌/◌, ◌%◌, ◌^◌, ◌<◌, ◌≤◌}
 use mathlib.Core.Path.{◌≡◌, refl, sym, ap, ◌∙◌}
 use mathlib.Core.List.{List}
-use mathlib.Core.Bool.{Bool, true, false, not, cond, ◌||◌, or-false}
+use mathlib.Core.Bool.{Bool, true, false, not, cond, ◌||◌}
 use mathlib.Core.Logic.{⊎_elim}
 use native.Mathlib.Nat.{eq-or-lt_of_le, div-eq_of_lt, one-mul, pow-suc}
 use native.Mathlib.Numerals.{one-add}
@@ -123,7 +123,3 @@ pub has-shifted : (mask a : ℕ) → a < mask_bits → (b : ℕ) → b < mask_bi
     → has (bit_or mask (1 * 2 ^ a % 2 ^ mask_bits)) b ≡ (has mask b || eqb a b)
 has-shifted mask a l b m =
     rw (shl_exact {a = 1} 1 a mask_bits (omega arith) (omega arith), one-mul (2 ^ a)) (has_more mask a b)
-
--- an address that the mask has no room for
-pub has_past : (mask a : ℕ) → mask_bits ≤ a → (b : ℕ) → b < mask_bits → has mask b ≡ (has mask b || eqb a b)
-has_past mask a l b m = rw (ne_eqb a b (λ e. omega arith)) (sym (or-false (has mask b)))
