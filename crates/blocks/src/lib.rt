@@ -77,10 +77,10 @@ fn leftover(word: u16) -> u16
     ensures { result ≡ remainder (word * 1024) }
 {
     let rows = ROWS;
-    let mut sum: u16 = 0;
-    for i in 0..16usize {
+    let mut sum = 0;
+    for (i, row) in rows.iter().enumerate() {
         if (word >> (15 - i)) % 2 == 1 {
-            sum ^= rows[i];
+            sum ^= row;
         }
     }
     sum
@@ -104,7 +104,7 @@ pub fn check(word: u16, kind: Kind) -> u16
 pub fn write(word: u16, kind: Kind) -> u32
     ensures { result ≡ write_of word kind }
 {
-    (word as u32) * 1024 + (check(word, kind) as u32)
+    u32::from(word) * 1024 + u32::from(check(word, kind))
 }
 
 // The word and kind of a block, or none; 12 where there are more than 26 bits.

@@ -26,13 +26,7 @@ pub fn bench_put_group(
     ensures { (result ≡ put_number (put_at_of out.old at))
         × (out.new ≡ buffer_of (word1 ∷ word2 ∷ word3 ∷ word4 ∷ []) out.old at) }
 {
-    put_code(groups::bytes::put_at([word1, word2, word3, word4], out, at))
-}
-
-fn put_code(put: Result<(), TooShort>) -> u8
-    ensures { result ≡ put_number put }
-{
-    match put {
+    match groups::bytes::put_at([word1, word2, word3, word4], out, at) {
         Ok(()) => 0,
         Err(TooShort) => TOO_SHORT,
     }

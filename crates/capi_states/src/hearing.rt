@@ -26,13 +26,7 @@ pub fn bench_fresh(state: &mut [u8]) -> u8
     ensures { (result ≡ saved_number (save_of state.old))
         × (state.new ≡ buffer_of fresh_of state.old) }
 {
-    saved_code(saving::save(Receiver::new(), state))
-}
-
-fn saved_code(saved: Result<(), TooShort>) -> u8
-    ensures { result ≡ saved_number saved }
-{
-    match saved {
+    match saving::save(Receiver::new(), state) {
         Ok(()) => 0,
         Err(TooShort) => TOO_SHORT,
     }
@@ -51,11 +45,8 @@ pub fn bench_take_bit(state: &mut [u8], bit: u8, told: &mut [u8]) -> u8
         return NO_BIT;
     }
     let step = saving::restore(state).step(bit);
-    let next = step.next;
-    let answer = step.answer;
-    let group = step.group;
-    saving::save(next, state).unwrap();
-    put_told(answer, group, 0, told);
+    saving::save(step.next, state).unwrap();
+    put_told(step.answer, step.group, 0, told);
     0
 }
 
@@ -70,11 +61,8 @@ pub fn bench_feed(state: &mut [u8], bytes: &[u8], byte: usize, bit: u8, told: &m
         return byte;
     }
     let came = saving::restore(state).advance(bytes, byte, bit);
-    let next = came.next;
-    let answer = came.answer;
-    let group = came.group;
-    saving::save(next, state).unwrap();
-    put_told(answer, group, came.bit, told);
+    saving::save(came.next, state).unwrap();
+    put_told(came.answer, came.group, came.bit, told);
     came.byte
 }
 

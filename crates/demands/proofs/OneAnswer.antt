@@ -60,6 +60,7 @@ bytes =
       blocks_of = λ κs a. (tt, λ r r' e e' p q. equation_settles p q);
       bytes_of = λ κs a. (tt, λ r r' e e' p q. equation_settles p q);
       put_at = λ κs a. (tt, λ r r' e e' p q. (equation_settles p.0 q.0, equation_settles p.2 q.2));
+      byte_at = λ κs a. (tt, λ r r' e e' p q. equation_settles p q);
       block_at = λ κs a. (tt, λ r r' e e' p q. equation_settles p q);
       word_at = λ κs a. (tt, λ r r' e e' p q. equation_settles p q);
       group_of = λ κs a. (tt, λ r r' e e' p q. equation_settles p q);

@@ -120,6 +120,7 @@ pub record Bytes : Type 0 where
   pub bytes_of : OneAnswer bytes_said.bytes_of.ended bytes.bytes_of.Reads.Asked bytes.bytes_of.Reads.Learnt
   pub put_at : OneExit bytes_said.put_at.ended (λ κs e. e.1.0.now) bytes.put_at.Reads.Asked
       bytes.put_at.Reads.Learnt
+  pub byte_at : OneAnswer bytes_said.byte_at.ended bytes.byte_at.Reads.Asked bytes.byte_at.Reads.Learnt
   pub block_at : OneAnswer bytes_said.block_at.ended bytes.block_at.Reads.Asked bytes.block_at.Reads.Learnt
   pub word_at : OneAnswer bytes_said.word_at.ended bytes.word_at.Reads.Asked bytes.word_at.Reads.Learnt
   pub group_of : OneAnswer bytes_said.group_of.ended bytes.group_of.Reads.Asked bytes.group_of.Reads.Learnt

@@ -64,7 +64,7 @@ pub fn put_at(words: [u16; 4], out: &mut [u8], at: usize) -> Result<(), TooShort
 }
 
 // A byte of a slice; 0 past its end.
-fn byte_at(bytes: &[u8], at: usize) -> u8
+pub fn byte_at(bytes: &[u8], at: usize) -> u8
     ensures { result ≡ get_or bytes.now at 0 }
 {
     bytes.get(at).copied().unwrap_or(0)

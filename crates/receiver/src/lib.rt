@@ -57,7 +57,8 @@ pub struct Run {
 
 // The receiver's state. `window` holds the last bits as a number, `count` says how many: hunting, of the last 52;
 // locked, of the block that is coming. `hand` is the group in hand, where `held` says that there is one. `run` and `bad`
-// count the blocks of the run.
+// count the blocks of the run. The hand is no Option: a state is restored from any 25 bytes, and the promise of
+// `bench_feed` says the hand's bytes afterwards, also where none is held.
 #[derive(Clone, Copy)]
 pub struct Receiver {
     pub window: u64,
@@ -88,19 +89,19 @@ pub struct Advanced {
     pub bit: u8,
 }
 
-// A place in bytes, and the last bits with their count, where the bits up to it were taken in.
+// A place in bytes: a byte, and which bit of it, the highest being 0.
 #[derive(Clone, Copy)]
 pub struct Spot {
     pub byte: usize,
     pub bit: u8,
 }
 
+// The last bits with their count, where the bits up to a place were taken in.
 #[derive(Clone, Copy)]
 pub struct Filled {
     pub window: u64,
     pub count: u8,
-    pub byte: usize,
-    pub bit: u8,
+    pub spot: Spot,
 }
 
 // The bits of a block, and of the pair that is tried.
@@ -343,14 +344,11 @@ fn counted(run: u8, bad: u8, judged: Judged) -> Run
 fn say(done: bool, lost: bool) -> Answer
     ensures { result ≡ say_of done lost }
 {
-    if done {
-        if lost {
-            Answer::GroupAndLost
-        } else {
-            Answer::Group
-        }
-    } else {
-        if lost { Answer::Lost } else { Answer::Nothing }
+    match (done, lost) {
+        (true, true) => Answer::GroupAndLost,
+        (true, false) => Answer::Group,
+        (false, true) => Answer::Lost,
+        (false, false) => Answer::Nothing,
     }
 }
 
@@ -358,7 +356,7 @@ fn say(done: bool, lost: bool) -> Answer
 fn shifted(window: u64, bit: u8) -> u64
     ensures { result ≡ shift_of window bit }
 {
-    window % KEPT_LIMIT * 2 + (bit as u64)
+    window % KEPT_LIMIT * 2 + u64::from(bit)
 }
 
 // A state with an answer and no group.
@@ -387,11 +385,7 @@ fn lock_after(window: u64, count: u8) -> Option<Lock>
 fn count_after(count: u8) -> u8
     ensures { result ≡ count_after_of count }
 {
-    if count < PAIR_BITS - 1 {
-        count + 1
-    } else {
-        PAIR_BITS
-    }
+    count.saturating_add(1).min(PAIR_BITS)
 }
 
 // The state where the last bits were tried: locked, or hunting on.
@@ -445,23 +439,19 @@ fn next_after(run: Run, place: Place, held: bool, hand: Group) -> Receiver
 fn end(receiver: Receiver, judged: Judged) -> Step
     ensures { result ≡ end_of receiver judged }
 {
-    let place = receiver.place;
-    let hand = receiver.hand;
-    let held = receiver.held;
-    let at = index(place);
+    let at = index(receiver.place);
     let fourth = at == FOURTH;
-    let done = fourth & held;
-    let group = groups::with_block(hand, at, judged);
+    let done = fourth & receiver.held;
+    let group = groups::with_block(receiver.hand, at, judged);
     let run = counted(receiver.run, receiver.bad, judged);
-    let lost = run.lost;
     Step {
         next: next_after(
             run,
-            after(place, judged),
-            fourth | held,
+            after(receiver.place, judged),
+            fourth | receiver.held,
             given(!fourth, group),
         ),
-        answer: say(done, lost),
+        answer: say(done, run.lost),
         group: given(done, group),
     }
 }
@@ -471,15 +461,18 @@ fn follow(receiver: Receiver, bit: u8) -> Step
     ensures { result ≡ follow_of receiver bit }
 {
     let moved = shifted(receiver.window, bit);
-    let count = receiver.count;
-    if count < BLOCK_BITS - 1 {
-        let mut next = receiver;
-        next.window = moved;
-        next.count = count + 1;
+    if receiver.count < BLOCK_BITS - 1 {
+        let next = Receiver {
+            window: moved,
+            count: receiver.count + 1,
+            ..receiver
+        };
         return answering(next, Answer::Nothing);
     }
-    let place = receiver.place;
-    end(receiver, judge_at(place, (moved % BLOCK_LIMIT) as u32))
+    end(
+        receiver,
+        judge_at(receiver.place, (moved % BLOCK_LIMIT) as u32),
+    )
 }
 
 impl Receiver {

@@ -11,7 +11,7 @@ ghost use Rattle.saving.specs.Saving.{buffer_of, place_numbered_of, saved_block_
 
 use blocks::{BlockError, Judged};
 use groups::Group;
-use groups::bytes::TooShort;
+use groups::bytes::{TooShort, byte_at};
 use receiver::{Place, Receiver};
 
 // The bytes of a state, and where its fields are.
@@ -99,13 +99,6 @@ fn state_bytes(receiver: Receiver) -> [u8; 25]
         receiver.run,
         receiver.bad,
     ]
-}
-
-// The byte at a place; 0 past the end.
-fn byte_at(bytes: &[u8], at: usize) -> u8
-    ensures { result ≡ get_or bytes.now at 0 }
-{
-    bytes.get(at).copied().unwrap_or(0)
 }
 
 // The number that some bytes are, the highest first.

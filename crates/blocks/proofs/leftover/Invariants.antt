@@ -6,7 +6,7 @@ use Rattle.blocks.proofs.Rows.{rows_of, upper}
 use Rattle.blocks.proofs.leftover.Given as goal
 
 abbrev pub invariant-loop-i : goal.invariant-loop-i
-invariant-loop-i l = (l.rows ≡ rows_of 16) × (l.i ≤ 16) × (l.sum ≡ remainder (upper l.word (16 - l.i)))
+invariant-loop-i l = (l.row-items ≡ rows_of 16) × (l.i ≤ 16) × (l.sum ≡ remainder (upper l.word (16 - l.i)))
 
 abbrev pub decreases-loop-i : goal.decreases-loop-i
 decreases-loop-i l = 16 - l.i

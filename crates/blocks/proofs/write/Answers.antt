@@ -4,4 +4,4 @@ use Rattle.blocks.proofs.write.Goals as goal
 
 pub returns : goal.returns
 unfolding write_of
-returns c = rw c.check.ensures
+returns c = rw (c.from.ensures, c.from-2.ensures, c.check.ensures)

@@ -1,15 +1,15 @@
 -- `receiver::count_after` meets its promise: by whether 52 bits have come.
 use Prim.Native.Nat.{◌+◌}
+use mathlib.Core.Logic.{⊎_elim}
+use native.Mathlib.Omega.{arith}
+use borrow.Author.Tests.{lt-ltb, le-ltb}
+use Rattle.bits.proofs.Order.{lt-or-le}
 use Rattle.receiver.specs.Strides.{count_after_of}
 use Rattle.receiver.specs.Rules.{pair_bits}
-use borrow.Author.Tests.{lt-ltb, le-ltb}
-use native.Mathlib.Omega.{arith}
 use Rattle.receiver.proofs.count_after.Goals as goal
 
-pub returns-then-count : goal.returns-then-count
+pub returns : goal.returns
 unfolding count_after_of
-returns-then-count c = rw (lt-ltb (c.args.count + 1) pair_bits (omega arith))
-
-pub returns-else-count : goal.returns-else-count
-unfolding count_after_of
-returns-else-count c = rw (le-ltb (c.args.count + 1) pair_bits (omega arith))
+returns c =
+    ⊎_elim (λ l. rw (lt-ltb (c.args.count + 1) pair_bits l) (omega arith)) (λ l. rw (le-ltb (c.args.count + 1) pair_bits l) (omega arith))
+    (lt-or-le (c.args.count + 1) pair_bits)

@@ -6,9 +6,9 @@ use borrow.Author.Tests.{lt-ltb, le-ltb}
 use native.Mathlib.Omega.{arith}
 use Rattle.receiver.proofs.follow.Goals as goal
 
-pub returns-then-count : goal.returns-then-count
+pub returns-then-receiver : goal.returns-then-receiver
 unfolding follow_of
-returns-then-count c = rw (
+returns-then-receiver c = rw (
   lt-ltb (c.args.receiver.count + 1) block_bits (omega arith),
   c.answering.ensures,
   c.shifted-moved.ensures,

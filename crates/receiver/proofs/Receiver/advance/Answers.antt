@@ -12,19 +12,19 @@ returns-then-bit-ge-BYTE_BITS c = let a = c.args in
     (advance_settled _ a.self a.bytes.now a.byte a.bit
     (advance_no-bit a.self a.bytes.now a.byte a.bit (omega arith)))
 
-pub loop-at-init : goal.loop-at-init
-loop-at-init c = (refl, search rules)
+pub loop-spot-init : goal.loop-spot-init
+loop-spot-init c = (refl, search rules)
 
-pub loop-at-smaller : goal.loop-at-smaller
-loop-at-smaller c = omega (
+pub loop-spot-smaller : goal.loop-spot-smaller
+loop-spot-smaller c = omega (
   arith,
   c.some_fed-taken.ensures.moved,
   c.some_fed-taken.ensures.within,
 )
 
-pub loop-at-preserved : goal.loop-at-preserved
-loop-at-preserved c = (
-  c.loop-at.invariant.0 ∙ c.some_fed-taken.ensures.whole
+pub loop-spot-preserved : goal.loop-spot-preserved
+loop-spot-preserved c = (
+  c.loop-spot.invariant.0 ∙ c.some_fed-taken.ensures.whole
       ∙ then_on c.some_fed-taken.result _
       (same-nothing c.some_fed-taken.result.answer (sym c.ne.ensures ∙ c.if-ne.false)),
   c.some_fed-taken.ensures.within,
@@ -33,11 +33,11 @@ loop-at-preserved c = (
 pub returns-then-ne : goal.returns-then-ne
 returns-then-ne c = let a = c.args in
     advance_settled _ a.self a.bytes.now a.byte a.bit
-    (c.loop-at.invariant.0 ∙ c.some_fed-taken.ensures.whole
+    (c.loop-spot.invariant.0 ∙ c.some_fed-taken.ensures.whole
     ∙ then_stop c.some_fed-taken.result _ (other-nothing c.some_fed-taken.result.answer (sym c.ne.ensures ∙ c.if-ne.true)))
 
 pub returns : goal.returns
-returns c = let a = c.args in let l = c.loop-at in
+returns c = let a = c.args in let l = c.loop-spot in
     rw c.resting-2.ensures
     (advance_settled _ a.self a.bytes.now a.byte a.bit
-    (l.invariant.0 ∙ advance-end l.next a.bytes.now l.at l.inside l.invariant.1 (omega arith)))
+    (l.invariant.0 ∙ advance-end l.next a.bytes.now l.spot.byte l.spot.bit l.invariant.1 (omega arith)))

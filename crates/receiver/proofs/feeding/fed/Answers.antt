@@ -7,8 +7,8 @@ pub returns : goal.returns
 returns c = let a = c.args in
     record {
       whole = rw (c.stopped.ensures, c.step-taken.ensures.0, c.bit_of.ensures)
-          (feed-one a.receiver a.bytes.now a.byte a.bit _ _ (omega arith) (omega arith)
-          c.onward-spot.ensures.0 c.onward-spot.ensures.1);
+          (feed-one a.receiver a.bytes.now a.from.byte a.from.bit _ _ c.requires.0 c.requires.1
+          c.onward.ensures.0 c.onward.ensures.1);
       moved = rw c.stopped.ensures (omega arith);
-      within = rw c.stopped.ensures c.onward-spot.ensures.1;
+      within = rw c.stopped.ensures c.onward.ensures.1;
     }

@@ -14,7 +14,7 @@ loop-many-preserved c = let l = c.loop-many in
     let s = c.args.bytes.now in
     let e = c.shifted-last.ensures ∙ ap (shift_of l.last) c.bit_of.ensures in (
       (λ r h. l.invariant.0 r h
-          ∙ inside_bit s l.at l.inside _ _ (omega arith) l.invariant.1 c.onward-spot.ensures.0
+          ∙ inside_bit s l.spot.byte l.spot.bit _ _ (omega arith) l.invariant.1 c.onward-spot.ensures.0
           c.onward-spot.ensures.1
           r l.last l.many h (omega arith)
           ∙ rw (← e)),
@@ -25,5 +25,5 @@ loop-many-preserved c = let l = c.loop-many in
 pub returns-after-loop-many : goal.returns-after-loop-many
 returns-after-loop-many c = let l = c.loop-many in record { whole = l.invariant.0; moved = l.invariant.2; within = l.invariant.1 }
 
-pub returns-then-at-bytes : goal.returns-then-at-bytes
-returns-then-at-bytes c = let l = c.loop-many in record { whole = l.invariant.0; moved = l.invariant.2; within = l.invariant.1 }
+pub returns-else-spot-bytes : goal.returns-else-spot-bytes
+returns-else-spot-bytes c = let l = c.loop-many in record { whole = l.invariant.0; moved = l.invariant.2; within = l.invariant.1 }

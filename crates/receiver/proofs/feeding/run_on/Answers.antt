@@ -2,7 +2,6 @@
 use Rattle.receiver.proofs.Quiet.{hunting_bare, taken-hunting, taken_inside}
 use Rattle.receiver.proofs.Same.{same-hunting}
 use mathlib.Core.Path.{sym, ◌∙◌}
-use native.Mathlib.Omega.{arith}
 use Rattle.receiver.proofs.feeding.run_on.Goals as goal
 
 pub returns-then-eq : goal.returns-then-eq
@@ -10,7 +9,7 @@ returns-then-eq c = let a = c.args in
     let h = sym (same-hunting a.receiver.place) ∙ sym c.eq.ensures ∙ c.if-eq.true in
     let t = c.hunt_on.result in
     record {
-      whole = hunting_bare a.receiver a.bytes.now a.byte a.bit (omega arith) (omega arith) h
+      whole = hunting_bare a.receiver a.bytes.now a.from.byte a.from.bit c.requires.0 c.requires.1 h
           ∙ c.hunt_on.ensures.whole ∙ rw (taken-hunting a.receiver t.window t.count h);
       moved = c.hunt_on.ensures.moved;
       within = c.hunt_on.ensures.within;
