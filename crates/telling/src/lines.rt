@@ -197,7 +197,11 @@ pub(crate) fn put_clock<const ROOM: usize>(label: Piece, held: Option<Clock>, pa
 }
 
 // A local date and time behind its label, or that there is none; the line ends with it.
-pub(crate) fn put_local<const ROOM: usize>(label: Piece, local: Result<DateTime, OutOfRange>, page: &mut Page<ROOM>)
+pub(crate) fn put_local<const ROOM: usize>(
+    label: Piece,
+    local: Result<DateTime, OutOfRange>,
+    page: &mut Page<ROOM>,
+)
     requires { length page.old + 220 ≤ ROOM }
     ensures text { page.new ≡ page.old ++ line_text (local_line (piece_of label) local) }
     ensures most { length page.new ≤ length page.old + 220 }
