@@ -27,7 +27,7 @@ pub fn mark(rt: &impl Runtime, errors: &impl Print) {
         0 | 1 => desk.unnamed(&mut answers::input_buffer(0), |sheet, input| {
             desk.write_line(sheet, input)
         }),
-        4 => desk.named(|sheet, exercise| desk.mark_third(sheet, exercise)),
+        4 => desk.named(|sheet, exercise| desk.mark_submission(sheet, exercise)),
         _ => desk.say(b"mark takes no arguments, or KEYFILE EXERCISE SUBMISSION\n"),
     }
 }
@@ -75,7 +75,7 @@ impl<R: Runtime, E: Print> Desk<'_, R, E> {
     }
 
     // Marks what the file holds that the third argument names; the exercise stands in front of it.
-    fn mark_third(&self, sheet: &[u8], exercise: u8) {
+    fn mark_submission(&self, sheet: &[u8], exercise: u8) {
         let mut input = answers::input_buffer(exercise);
         let length = self.read_argument(3, &mut input[1..]);
         self.write_line(sheet, &input[..1 + length]);
