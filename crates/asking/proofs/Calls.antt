@@ -10,7 +10,8 @@ use Rattle.asking.specs.declared.reading.Reading.TheVariants.{GoOn, Ended, Faile
 use Rattle.asking.specs.Reading.{called_of, after_of, there_of, goes_on_of}
 
 -- what is there stays within the room
-after_within : (r : Reading) (got : Result ℕ Error) (room : ℕ) → there_of r ≤ room → there_of (after_of r got room) ≤ room
+after_within : (r : Reading) (got : Result ℕ Error) (room : ℕ) → there_of r ≤ room
+    → there_of (after_of r got room) ≤ room
 unfolding called_of after_of
 after_within (GoOn there) (Ok zero) room h = h
 after_within (GoOn there) (Ok (suc n)) room h = omega arith
@@ -52,7 +53,8 @@ module _ (r s : Reading) (got : Result ℕ Error) (room room' : ℕ) (e : s ≡ 
   turn_fresh goes none = let h = goes_within r room goes in absurd (omega arith)
 
 -- a piece that a call has brought
-pub piece_within : (got : Result ℕ Error) (room m : ℕ) (s : Reading) → s ≡ after_of (GoOn 0) got room → s ≡ GoOn m → m ≤ room
+pub piece_within : (got : Result ℕ Error) (room m : ℕ) (s : Reading) → s ≡ after_of (GoOn 0) got room → s ≡ GoOn m
+    → m ≤ room
 piece_within got room m s e f =
     let within = after_within (GoOn 0) got room (omega arith) in
     let there : there_of (after_of (GoOn 0) got room) ≡ m = ap there_of (sym e ∙ f) in

@@ -6,8 +6,8 @@ ghost use Rattle.asking.specs.Reading.{called_of, after_of, there_of, goes_on_of
 use std::io;
 use std::io::Error;
 
-// So many bytes are there and there may be more; the input has ended; or a call failed, and why. These are states, and no
-// `Result`: an end or a failure stays whatever a later call answers (`after_of`).
+// So many bytes are there and there may be more; the input has ended; or a call failed, and why. These are states, and
+// no `Result`: an end or a failure stays whatever a later call answers (`after_of`).
 #[derive(Clone, Copy)]
 pub enum Reading {
     GoOn(usize),

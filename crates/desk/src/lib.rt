@@ -1,6 +1,6 @@
 // The desk of the programs `mark` and `encode`: reads the key sheet and what is handed in, and writes what `answers`
-// makes of them. It only moves bytes. `rt` is what a program runs on, and `errors` its standard error. What is read lies
-// in arrays of a fixed size and no vector: a vector's memory can run out, and then there would be one refusal more.
+// makes of them. It only moves bytes. `rt` is what a program runs on, and `errors` its standard error. What is read
+// lies in arrays of a fixed size and no vector: a vector's memory can run out, and there would be one refusal more.
 #![tactic(auto)]
 
 ghost use Rattle.io.specs.Counts.{IsPrefixLen};

@@ -1,5 +1,5 @@
-// Files and standard streams: opens and reads, and says on standard error what failed. It only moves bytes: what is read
-// is given as so many bytes of a buffer, and a file that cannot be opened or read to its end counts as no bytes.
+// Files and standard streams: opens and reads, and says on standard error what failed. It only moves bytes: what is
+// read is given as so many bytes of a buffer, and a file that cannot be opened or read to its end counts as no bytes.
 // `rt` is what a program runs on, and `errors` its standard error.
 #![tactic(auto)]
 
@@ -62,8 +62,9 @@ pub fn open<R: Files + Input>(
     }
 }
 
-// Reads a file into a buffer, at most as much as it holds; one that cannot be read, also midway, has length 0. The answer
-// is a number, and no slice of the buffer: the promise speaks of the buffer at exit, which a slice would take along.
+// Reads a file into a buffer, at most as much as it holds; one that cannot be read, also midway, has length 0. The
+// answer is a number, and no slice of the buffer: the promise speaks of the buffer at exit, which a slice would take
+// along.
 pub fn read_file(
     rt: &(impl Files + Input),
     errors: &impl Print,

@@ -123,8 +123,8 @@ impl<R: Runtime, E: Print> Listener<'_, R, E> {
         }
     }
 
-    // Writes the lines of what was taken, each by one call, and answers whether both could be written. None is told once
-    // one could not.
+    // Writes the lines of what was taken, each by one call, and answers whether both could be written. None is told
+    // once one could not.
     fn write_taken(&self, ear: Ear, taken: Advanced, before: u64, open: bool) -> bool {
         let short = self.short || !open;
         let mut group = [0u8; GROUP_ROOM];

@@ -1,5 +1,5 @@
--- `files::fill`: what is there stays within the buffer, into which something goes where it is more than a fresh reading,
--- and with each call less is left to read.
+-- `files::fill`: what is there stays within the buffer, with no room for any the reading stays fresh, and with each
+-- call less is left to read.
 use Rattle.std.proofs.Common.{◌≡◌, ◌≤◌, length}
 use Rattle.asking.specs.declared.reading.Reading.TheVariants.{GoOn}
 use Rattle.asking.specs.Reading.{there_of}
