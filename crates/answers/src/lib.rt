@@ -70,8 +70,9 @@ pub fn marked(sheet: &[u8], input: &[u8]) -> MarkAnswer
     }
 }
 
-// The line of that answer. It is put together in a buffer of our own, with its length beside it, as the texts below are: a
-// page that grows, as `telling` has one, asks that what it is given has room, and no public function asks anything.
+// The line of that answer. It is put together in a buffer of our own, with its length beside it, as the texts below
+// are: a page that grows, as `telling` has one, asks that what it is given has room, and no public function asks
+// anything.
 pub fn mark_line(sheet: &[u8], input: &[u8], out: &mut [u8]) -> Result<usize, TooShort>
     ensures { TellsWithin line_room (mark_line sheet.now input.now)
         out.old result out.new }
@@ -165,7 +166,8 @@ fn number(encoded: Result<usize, EncodeError>) -> u64
     }
 }
 
-// A number behind its label, in a buffer that has room for them.
+// A number behind its label, in a buffer that has room for them. A buffer and a place in it go together, as
+// `letters::put` takes them.
 fn put_labelled(label: &[u8], number: u64, out: &mut [u8], at: usize) -> usize
     requires { at + length label.now + 20 ≤ length out.old }
     ensures { Wrote out.old at (label.now ++ decimal_of number) out.new result

@@ -35,6 +35,7 @@ fn more(count: u64) -> u64
     count.saturating_add(1)
 }
 
+// A lock more, or a loss: another field each, and a line each.
 fn with_lock(counts: Counts) -> Counts
     ensures { result ≡ with_lock counts }
 {

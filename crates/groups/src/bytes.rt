@@ -7,7 +7,7 @@ ghost use Rattle.groups.specs.Written.{block_in, word_in, judged_in, group_in};
 use crate::Group;
 use blocks::{Judged, Kind};
 
-// A buffer has no room for a group.
+// A buffer has no room for a group. `letters` has a refusal of this name too: neither crate imports the other.
 #[derive(Clone, Copy, PartialEq, Eq)]
 pub struct TooShort;
 

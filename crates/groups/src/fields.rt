@@ -86,7 +86,7 @@ fn switches_from(word2: u16) -> Switches
     }
 }
 
-// Bits 1-0 of word 2 of a 0A or 0B.
+// Bits 1-0 of word 2 of a 0A or 0B. Name and text have a definition each for their address, and a line each here.
 fn name_address(word2: u16) -> u8
     ensures { result ≡ name_address word2 }
 {

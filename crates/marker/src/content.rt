@@ -80,7 +80,7 @@ fn header_wrong(key: Key, words: [u16; 4]) -> bool
         || header.version == 1 && words[2] != pi
 }
 
-// Answer 6.
+// Answer 6. Each case is named, so that one more is looked at here.
 fn content_wrong(key: Key, held: Option<bool>, content: Content) -> bool
     ensures { result ≡ content_wrong key.bytes held content }
 {

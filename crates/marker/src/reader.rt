@@ -49,7 +49,7 @@ pub(crate) fn block_in(bytes: &[u8], number: usize) -> u32
     Reader::new(bytes).moved(number).block()
 }
 
-// The word of a block, whatever its check.
+// The word of a block, whatever its check: 16 of 26 bits, so that nothing is cut off.
 pub(crate) fn word_in(bytes: &[u8], number: usize) -> u16
     ensures { result ≡ word_in bytes.now number }
 {

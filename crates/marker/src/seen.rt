@@ -8,7 +8,7 @@ use crate::Verdict;
 use groups::fields::Content;
 use keys::Key;
 
-// The first address of the text, after those of the name.
+// The first address of the text, after those of the name; a constant is no place for a call of `from`.
 pub const TEXT: usize = keys::NAME_ADDRESSES as usize;
 
 // Addresses that a mask has room for.
@@ -31,7 +31,7 @@ fn flag_of(content: Content) -> Option<bool>
     }
 }
 
-// The addresses seen, once a group more has come.
+// The addresses seen, once a group more has come. Each case is named, so that one more is looked at here.
 pub(crate) fn seen_after(mask: u32, content: Content) -> u32
     ensures { (a : ℕ) → a < mask_bits → has result a ≡ (has mask a || brings content a) }
 {

@@ -47,7 +47,8 @@ pub struct Lock {
     pub newer: u16,
 }
 
-// A run of blocks: how many have come, how many of them were bad, and whether lock is lost with it.
+// A run of blocks: how many have come, how many of them were bad, and whether lock is lost with it. A loss has counts
+// too, 0 and 0: `counted_of` says all three.
 #[derive(Clone, Copy)]
 pub struct Run {
     pub run: u8,
@@ -226,13 +227,7 @@ fn locked_place(kind: Kind, newer: u16) -> Place
 fn locked_held(kind: Kind) -> bool
     ensures { result ≡ (locked_of kind 0 0).held }
 {
-    match kind {
-        Kind::A => true,
-        Kind::B => false,
-        Kind::C => true,
-        Kind::CPrime => true,
-        Kind::D => true,
-    }
+    !matches!(kind, Kind::B)
 }
 
 // After A,B the group in hand has two blocks; after D,A it has one.

@@ -31,7 +31,7 @@ const RUN_AT: usize = 23;
 
 const BAD_AT: usize = 24;
 
-// The place of a block, as a number.
+// The place of a block, as a number: these are numbers of the saved bytes, and no other conversion of a place (`From`).
 fn place_number(place: Place) -> u8
     ensures { result ≡ place_number_of place }
 {

@@ -33,7 +33,7 @@ pub fn tp(station: Record) -> bool
     station.tp
 }
 
-// The characters of the name.
+// The characters of the name. Name and text have readers of their own, a line each: a caller names the one that it shows.
 pub fn name_characters(station: Record) -> [u8; crate::NAME_SIZE]
     ensures { result ≡ name_characters_of station }
 {

@@ -24,7 +24,7 @@ pub(crate) enum Piece {
 // Of a word no more letters are told; none has more.
 const WORD_ROOM: usize = 20;
 
-// A number in decimal.
+// A number in decimal, in a buffer and from a place on, as `letters` takes them; so below.
 fn put_number(number: u64, out: &mut [u8], at: usize) -> usize
     requires { at + 20 ≤ length out.old }
     ensures { Wrote out.old at (decimal_of number) out.new result × (result ≤ at + 20) }
