@@ -2,8 +2,6 @@
 // document 001, B.1, blocks of 26 bits and over, and the patterns of three bits that a valid block does not show.
 #![tactic(auto)]
 
-ghost use Rattle.std.specs.Prelude.{◌<◌, ◌≤◌};
-
 use blocks::{Block, Kind, TooLong};
 use std::io;
 
@@ -54,13 +52,16 @@ fn write_read(rt: &impl Print, bits: u32) -> io::Result<()> {
     }
 }
 
+// A bit turned, by its place from the lowest.
+fn turned_at(place: u32) -> u32 {
+    1u32.wrapping_shl(place)
+}
+
 // The patterns of three bits that a valid block does not show: two of them are given, and the third is below.
-fn write_third(rt: &impl Print, two: u32, below: u32) -> io::Result<()>
-    requires { below ≤ 26 }
-{
+fn write_third(rt: &impl Print, two: u32, below: u32) -> io::Result<()> {
     let valid = blocks::write(0x1234, Kind::C);
     for third in 0..below {
-        let turned = two | 1u32 << third;
+        let turned = two | turned_at(third);
         if blocks::judge(valid ^ turned, Kind::C).is_ok() {
             println!(rt; "three bits {turned:07x}")?;
         }
@@ -69,11 +70,9 @@ fn write_third(rt: &impl Print, two: u32, below: u32) -> io::Result<()>
 }
 
 // Those of which one is given, and the others are below it.
-fn write_second(rt: &impl Print, first: u32) -> io::Result<()>
-    requires { first < 26 }
-{
+fn write_second(rt: &impl Print, first: u32) -> io::Result<()> {
     for second in 0..first {
-        write_third(rt, 1u32 << first | 1u32 << second, second)?;
+        write_third(rt, turned_at(first) | turned_at(second), second)?;
     }
     Ok(())
 }
