@@ -3,10 +3,7 @@ ghost use Rattle.std.specs.Prelude.{◌≤◌};
 
 // The byte at a place; 0 past the end.
 pub(crate) fn byte(case: &[u8], at: usize) -> u8 {
-    if at < case.len() {
-        return case[at];
-    }
-    0
+    case.get(at).copied().unwrap_or(0)
 }
 
 // A yes or no.
@@ -18,15 +15,17 @@ pub(crate) fn flag(case: &[u8], at: usize) -> bool {
 pub(crate) fn word(case: &[u8], at: usize) -> u16
     requires { at ≤ 16 }
 {
-    (byte(case, at) as u16) * 256 + (byte(case, at + 1) as u16)
+    u16::from_be_bytes([byte(case, at), byte(case, at + 1)])
 }
 
 // Four bytes.
 pub(crate) fn long(case: &[u8], at: usize) -> u32
     requires { at ≤ 16 }
 {
-    (byte(case, at) as u32) * 16777216
-        + (byte(case, at + 1) as u32) * 65536
-        + (byte(case, at + 2) as u32) * 256
-        + (byte(case, at + 3) as u32)
+    u32::from_be_bytes([
+        byte(case, at),
+        byte(case, at + 1),
+        byte(case, at + 2),
+        byte(case, at + 3),
+    ])
 }

@@ -129,12 +129,9 @@ fn run_case(rt: &impl Print, case: &[u8], number: usize) -> io::Result<()>
 }
 
 fn run_cases(rt: &impl Print, input: &[u8]) -> io::Result<()> {
-    let cases = input.len() / CASE_SIZE;
-    let mut number: usize = 0;
-    while number < cases {
+    for number in 0..input.len() / CASE_SIZE {
         let at = CASE_SIZE * number;
         run_case(rt, &input[at..at + CASE_SIZE], number)?;
-        number += 1;
     }
     Ok(())
 }
