@@ -60,8 +60,8 @@ fn resting(receiver: Receiver, spot: Spot) -> Advanced
     stopped(crate::answering(receiver, Answer::Nothing), spot)
 }
 
-// Hunting, takes in the bits from a place on, up to one that locks or the end of the bytes. The place goes on bit by bit,
-// and there is no `for` over bit numbers: eight times a length may be no usize.
+// Hunting, takes in the bits from a place on, up to one that locks or the end of the bytes. The place goes on bit by
+// bit, and there is no `for` over bit numbers: eight times a length may be no usize.
 fn hunt_on(window: u64, count: u8, bytes: &[u8], from: Spot) -> Filled
     requires { IsIn from bytes.now }
     ensures { Heard window count bytes.now from result }

@@ -71,8 +71,8 @@ pub struct Receiver {
     pub bad: u8,
 }
 
-// The next state with the answer; the group is the empty one where none is answered. It stands beside the answer and not
-// in it: the laws over streams say a group for every bit (`receiver_agrees`), and what is told of any answer has one's bytes.
+// The next state with the answer; the group is the empty one where none is answered. It stands beside the answer, not
+// in it: the laws over streams say a group for every bit (`receiver_agrees`), and `bench_feed` tells one's bytes.
 #[derive(Clone, Copy)]
 pub struct Step {
     pub next: Receiver,
