@@ -167,12 +167,12 @@ pub fn switches_of(group: Group) -> Option<Switches>
 pub fn first(word: u16) -> u8
     ensures { result ≡ first_of word }
 {
-    (word / 256) as u8
+    word.to_be_bytes()[0]
 }
 
 // The second of them.
 pub fn second(word: u16) -> u8
     ensures { result ≡ second_of word }
 {
-    (word % 256) as u8
+    word.to_be_bytes()[1]
 }

@@ -134,11 +134,9 @@ fn is_wanted(key: Key, address: usize) -> bool
 }
 
 // A flag unlike the first 2A's.
+#[tactic(auto, unfolding(crate::specs::Tests::unlike))]
 fn is_unlike(held: Option<bool>, flag: bool) -> bool
     ensures { result ≡ unlike held flag }
 {
-    match held {
-        None => false,
-        Some(first) => flag != first,
-    }
+    held.is_some_and(|first| flag != first)
 }
