@@ -38,7 +38,7 @@ module _ (state : List ℕ) (bit : ℕ) (told : List ℕ) where
 
   pub bit_taken : (step : Step) (after said : List ℕ) → no_room (length state) (length told) ≡ false → bit ≤ 1
       → step ≡ stepped state bit → after ≡ buffer_of step.next state
-      → said ≡ told_of step.answer step.group 0 ++ drop told_size told
+      → said ≡ told_of step.answer 0 ++ drop told_size told
       → (◌≡◌ {A = ℕ} 0 (bit_refused state bit told)) × (after ≡ stepped_state state bit told)
       × (said ≡ stepped_told state bit told)
   unfolding bit_refused stepped_state stepped_told
@@ -46,7 +46,7 @@ module _ (state : List ℕ) (bit : ℕ) (told : List ℕ) where
       let under = le-ltb 1 bit h in (
         rw (e, under),
         rw (e, under) (a ∙ ap (λ (x : Step). buffer_of x.next state) s),
-        rw (e, under) (t ∙ ap (λ (x : Step). told_of x.answer x.group 0 ++ drop told_size told) s),
+        rw (e, under) (t ∙ ap (λ (x : Step). told_of x.answer 0 ++ drop told_size told) s),
       )
 
 -- ---- bytes
@@ -60,12 +60,12 @@ module _ (state bytes : List ℕ) (byte bit : ℕ) (told : List ℕ) where
 
   pub feed_done : (came : Advanced) (after said : List ℕ) → no_room (length state) (length told) ≡ false
       → came ≡ fed state bytes byte bit → after ≡ buffer_of came.next state
-      → said ≡ told_of came.answer came.group came.bit ++ drop told_size told
+      → said ≡ told_of came.answer came.bit ++ drop told_size told
       → (came.byte ≡ place_after state bytes byte bit told) × (after ≡ state_after state bytes byte bit told)
       × (said ≡ told_after state bytes byte bit told)
   unfolding place_after state_after told_after
   feed_done came after said e s a t = (
     rw e (ap (λ (x : Advanced). x.byte) s),
     rw e (a ∙ ap (λ (x : Advanced). buffer_of x.next state) s),
-    rw e (t ∙ ap (λ (x : Advanced). told_of x.answer x.group x.bit ++ drop told_size told) s),
+    rw e (t ∙ ap (λ (x : Advanced). told_of x.answer x.bit ++ drop told_size told) s),
   )

@@ -1,12 +1,11 @@
 -- The receiver: its state as bytes, and its answer told in a second buffer.
 use Rattle.std.specs.Prelude.{ℕ, ◌/◌, ◌%◌, Bool, cond, ◌||◌, List, [], ◌∷◌, ◌++◌, eqb, ltb, length, drop}
-use Rattle.groups.specs.declared.Group.{Group}
 use Rattle.groups.specs.Group.{word_of, good_of}
 use Rattle.receiver.specs.declared.Answer.{Answer}
 use Rattle.receiver.specs.declared.Answer.TheVariants as answers
 use Rattle.receiver.specs.declared.Step.{Step}
 use Rattle.receiver.specs.declared.Advanced.{Advanced}
-use Rattle.receiver.specs.Answers.{bit_number}
+use Rattle.receiver.specs.Answers.{bit_number, group_of}
 use Rattle.receiver.specs.Machine.{step_of}
 use Rattle.receiver.specs.Feeding.{advance_of}
 use Rattle.saving.specs.Saving.{state_length, buffer_of, restore_of}
@@ -16,31 +15,32 @@ use Rattle.capi.specs.Groups.{bit_of}
 abbrev pub answer_code : Answer → ℕ
 answer_code answers.Nothing = 0
 answer_code answers.Locked = 1
-answer_code answers.Group = 2
+answer_code (answers.Group group) = 2
 answer_code answers.Lost = 3
-answer_code answers.GroupAndLost = 4
+answer_code (answers.GroupAndLost group) = 4
 answer_code answers.Refused = 9
 
--- what is told, 14 bytes: the answer, which bit of its byte comes next, the mask, and the words, high byte first
+-- what is told, 14 bytes: the answer, which bit of its byte comes next, the mask, and the words, high byte first;
+-- where no group is answered, mask and words of the empty one
 abbrev pub told_size : ℕ
 told_size = 14
 
-unfoldable pub told_of : Answer → Group → ℕ → List ℕ
-told_of answer group bit =
+unfoldable pub told_of : Answer → ℕ → List ℕ
+told_of answer bit =
     answer_code answer
     ∷ bit
-    ∷ bit_of (good_of group 0)
-    ∷ bit_of (good_of group 1)
-    ∷ bit_of (good_of group 2)
-    ∷ bit_of (good_of group 3)
-    ∷ word_of group 0 / 256
-    ∷ word_of group 0 % 256
-    ∷ word_of group 1 / 256
-    ∷ word_of group 1 % 256
-    ∷ word_of group 2 / 256
-    ∷ word_of group 2 % 256
-    ∷ word_of group 3 / 256
-    ∷ word_of group 3 % 256
+    ∷ bit_of (good_of (group_of answer) 0)
+    ∷ bit_of (good_of (group_of answer) 1)
+    ∷ bit_of (good_of (group_of answer) 2)
+    ∷ bit_of (good_of (group_of answer) 3)
+    ∷ word_of (group_of answer) 0 / 256
+    ∷ word_of (group_of answer) 0 % 256
+    ∷ word_of (group_of answer) 1 / 256
+    ∷ word_of (group_of answer) 1 % 256
+    ∷ word_of (group_of answer) 2 / 256
+    ∷ word_of (group_of answer) 2 % 256
+    ∷ word_of (group_of answer) 3 / 256
+    ∷ word_of (group_of answer) 3 % 256
     ∷ []
 
 -- one of the buffers, of these lengths, is too short
@@ -66,7 +66,7 @@ stepped_state state bit told =
 unfoldable pub stepped_told : List ℕ → ℕ → List ℕ → List ℕ
 stepped_told state bit told =
     cond (eqb (bit_refused state bit told) 0)
-    (told_of (stepped state bit).answer (stepped state bit).group 0 ++ drop told_size told) told
+    (told_of (stepped state bit).answer 0 ++ drop told_size told) told
 
 -- ---- bytes from a place on
 
@@ -87,5 +87,4 @@ state_after state bytes byte bit told =
 unfoldable pub told_after : List ℕ → List ℕ → ℕ → ℕ → List ℕ → List ℕ
 told_after state bytes byte bit told =
     cond (no_room (length state) (length told)) told
-    (told_of (fed state bytes byte bit).answer (fed state bytes byte bit).group (fed state bytes byte bit).bit
-    ++ drop told_size told)
+    (told_of (fed state bytes byte bit).answer (fed state bytes byte bit).bit ++ drop told_size told)

@@ -7,7 +7,6 @@ ghost use Rattle.saving.specs.Saving.{save_of, saved_number, buffer_of, restore_
 ghost use Rattle.capi_states.specs.Hearing.{answer_code, told_size, told_of, no_room, bit_refused};
 ghost use Rattle.capi_states.specs.Hearing.{state_after, told_after, place_after, stepped_state, stepped_told};
 
-use groups::Group;
 use groups::bytes::TooShort;
 use receiver::{Answer, Receiver};
 
@@ -46,7 +45,7 @@ pub fn bench_take_bit(state: &mut [u8], bit: u8, told: &mut [u8]) -> u8
     }
     let step = saving::restore(state).step(bit);
     saving::save(step.next, state).unwrap();
-    put_told(step.answer, step.group, 0, told);
+    put_told(step.answer, 0, told);
     0
 }
 
@@ -62,7 +61,7 @@ pub fn bench_feed(state: &mut [u8], bytes: &[u8], byte: usize, bit: u8, told: &m
     }
     let came = saving::restore(state).advance(bytes, byte, bit);
     saving::save(came.next, state).unwrap();
-    put_told(came.answer, came.group, came.bit, told);
+    put_told(came.answer, came.bit, told);
     came.byte
 }
 
@@ -80,17 +79,18 @@ fn answer_code(answer: Answer) -> u8
     match answer {
         Answer::Nothing => 0,
         Answer::Locked => 1,
-        Answer::Group => 2,
+        Answer::Group(_) => 2,
         Answer::Lost => 3,
-        Answer::GroupAndLost => 4,
+        Answer::GroupAndLost(_) => 4,
         Answer::Refused => 9,
     }
 }
 
 // What is told, as bytes.
-fn told_bytes(answer: Answer, group: Group, bit: u8) -> [u8; 14]
-    ensures { result ≡ told_of answer group bit }
+fn told_bytes(answer: Answer, bit: u8) -> [u8; 14]
+    ensures { result ≡ told_of answer bit }
 {
+    let group = answer.group();
     let one = groups::word(group, 0).to_be_bytes();
     let two = groups::word(group, 1).to_be_bytes();
     let three = groups::word(group, 2).to_be_bytes();
@@ -114,9 +114,9 @@ fn told_bytes(answer: Answer, group: Group, bit: u8) -> [u8; 14]
 }
 
 // What is told, into a buffer that has room for it.
-fn put_told(answer: Answer, group: Group, bit: u8, told: &mut [u8])
+fn put_told(answer: Answer, bit: u8, told: &mut [u8])
     requires { told_size ≤ length told.old }
-    ensures { told.new ≡ told_of answer group bit ++ drop told_size told.old }
+    ensures { told.new ≡ told_of answer bit ++ drop told_size told.old }
 {
-    told[..TOLD_SIZE].copy_from_slice(&told_bytes(answer, group, bit));
+    told[..TOLD_SIZE].copy_from_slice(&told_bytes(answer, bit));
 }

@@ -32,10 +32,10 @@ with_group c group =
     }
 
 -- the counts after an answer of the receiver
-abbrev pub counted_of : Counts → Answer → Group → Counts
-counted_of c answer.Nothing group = c
-counted_of c answer.Locked group = with_lock c
-counted_of c answer.Group group = with_group c group
-counted_of c answer.Lost group = with_loss c
-counted_of c answer.GroupAndLost group = with_loss (with_group c group)
-counted_of c answer.Refused group = c
+abbrev pub counted_of : Counts → Answer → Counts
+counted_of c answer.Nothing = c
+counted_of c answer.Locked = with_lock c
+counted_of c (answer.Group group) = with_group c group
+counted_of c answer.Lost = with_loss c
+counted_of c (answer.GroupAndLost group) = with_loss (with_group c group)
+counted_of c answer.Refused = c

@@ -75,16 +75,16 @@ fn with_group(counts: Counts, group: Group) -> Counts
     }
 }
 
-// The counts after an answer of the receiver; the group counts where one is answered.
-pub fn counted(counts: Counts, answer: Answer, group: Group) -> Counts
-    ensures { result ≡ counted_of counts answer group }
+// The counts after an answer of the receiver; a group that is answered counts.
+pub fn counted(counts: Counts, answer: Answer) -> Counts
+    ensures { result ≡ counted_of counts answer }
 {
     match answer {
         Answer::Nothing => counts,
         Answer::Locked => with_lock(counts),
-        Answer::Group => with_group(counts, group),
+        Answer::Group(group) => with_group(counts, group),
         Answer::Lost => with_loss(counts),
-        Answer::GroupAndLost => with_loss(with_group(counts, group)),
+        Answer::GroupAndLost(group) => with_loss(with_group(counts, group)),
         Answer::Refused => counts,
     }
 }

@@ -92,6 +92,7 @@ receiver =
       new = λ κs a. (tt, λ r r' e e' p q. equation_settles p q);
       step = λ κs a. (tt, λ r r' e e' p q. equation_settles p.0 q.0);
       advance = λ κs a. (tt, λ r r' e e' p q. equation_settles p.0 q.0);
+      group = λ κs a. (tt, λ r r' e e' p q. equation_settles p q);
     }
 
 saving : Saving

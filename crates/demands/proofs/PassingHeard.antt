@@ -15,7 +15,7 @@ use Rattle.groups.specs.Group.{all_good_of}
 use Rattle.groups.specs.Written.{block_in, word_in}
 use Rattle.groups.proofs.BlocksInBytes.{word_in-block}
 use Rattle.receiver.specs.declared.Receiver.{Receiver}
-use Rattle.receiver.specs.Answers.{brings_group}
+use Rattle.receiver.specs.Answers.{brings_group, group_of}
 use Rattle.receiver.specs.Machine.{step_of, fresh_of}
 use Rattle.history.specs.Streams.{bits_from, sent_word, sent_group, sent_groups, ValidBlocks}
 use Rattle.history.proofs.Answered.{answered_of, all-groups-answered}
@@ -32,7 +32,7 @@ unfolding groups_heard answered_of
 heard-answered r [] = refl
 heard-answered r (bit ∷ bits) =
     rw (heard-answered (step_of r bit).next bits)
-    (one (brings_group (step_of r bit).answer) (step_of r bit).group (answered_of (step_of r bit).next bits))
+    (one (brings_group (step_of r bit).answer) (group_of (step_of r bit).answer) (answered_of (step_of r bit).next bits))
   where
     one : (b : Bool) (g : Group) (gs : List Group) → cond b (g ∷ gs) gs ≡ cond b (g ∷ []) [] ++ gs
     one true g gs = refl

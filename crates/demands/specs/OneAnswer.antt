@@ -19,7 +19,9 @@ use Rattle.frequencies.specs.contracts as frequencies_said
 use Rattle.frequencies.proofs as frequencies
 use Rattle.clock.specs.contracts as clock_said
 use Rattle.clock.proofs as clock
+use Rattle.receiver.specs.contracts.Answer as answer_said
 use Rattle.receiver.specs.contracts.Receiver as receiver_said
+use Rattle.receiver.proofs.Answer as answer
 use Rattle.receiver.proofs.Receiver as receiver
 use Rattle.saving.specs.contracts as saving_said
 use Rattle.saving.proofs as saving
@@ -142,11 +144,12 @@ pub record Clock : Type 0 where
   pub write : OneAnswer clock_said.write.ended clock.write.Reads.Asked clock.write.Reads.Learnt
   pub local_date : OneAnswer clock_said.local_date.ended clock.local_date.Reads.Asked clock.local_date.Reads.Learnt
 
--- receiver: a fresh one, one bit, and on to the next answer; the state comes and goes by value
+-- receiver: a fresh one, one bit, and on to the next answer; the state comes and goes by value. And an answer's group
 pub record Receiver : Type 0 where
   pub new : OneAnswer receiver_said.new.ended receiver.new.Reads.Asked receiver.new.Reads.Learnt
   pub step : OneAnswer receiver_said.step.ended receiver.step.Reads.Asked receiver.step.Reads.Learnt
   pub advance : OneAnswer receiver_said.advance.ended receiver.advance.Reads.Asked receiver.advance.Reads.Learnt
+  pub group : OneAnswer answer_said.group.ended answer.group.Reads.Asked answer.group.Reads.Learnt
 
 -- saving: the receiver's state as bytes, and back; `save` is lent a buffer
 pub record Saving : Type 0 where

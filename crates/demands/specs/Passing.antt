@@ -7,7 +7,7 @@ use Rattle.bits.specs.Bytes.{bit_at, Bytes}
 use Rattle.blocks.specs.Damage.{block_bits, Damage}
 use Rattle.groups.specs.declared.Group.{Group}
 use Rattle.receiver.specs.declared.Receiver.{Receiver}
-use Rattle.receiver.specs.Answers.{brings_group}
+use Rattle.receiver.specs.Answers.{brings_group, group_of}
 use Rattle.receiver.specs.Machine.{step_of, fresh_of as fresh_receiver}
 use Rattle.history.specs.Streams.{bits_from}
 use Rattle.station.specs.declared.Record.{Record}
@@ -57,7 +57,8 @@ bits_of s = bits_from (bit_at s) 0 (8 * length s)
 unfoldable pub groups_heard : Receiver → List ℕ → List Group
 groups_heard r [] = []
 groups_heard r (bit ∷ bits) =
-    cond (brings_group (step_of r bit).answer) ((step_of r bit).group ∷ groups_heard (step_of r bit).next bits)
+    cond (brings_group (step_of r bit).answer)
+    (group_of (step_of r bit).answer ∷ groups_heard (step_of r bit).next bits)
     (groups_heard (step_of r bit).next bits)
 
 -- a submission's bits fed to a fresh receiver, and the groups taken into a fresh record

@@ -13,6 +13,7 @@ use Rattle.frequencies.specs.Frequency.{frequency_of, code_of}
 use Rattle.clock.specs.Words as clock
 use Rattle.clock.specs.Words.{Is4A, tp_in, pty_in, plain_of, plain_word2, plain_word4}
 use Rattle.clock.specs.declared.Clock.{Clock}
+use Rattle.receiver.specs.Answers.{group_of}
 use Rattle.receiver.specs.Machine as receiver
 use Rattle.receiver.specs.Machine.{step_of, fed_of}
 use Rattle.saving.specs.Saving.{state_length, buffer_of, restore_of}
@@ -87,10 +88,11 @@ pub record FrequenciesBack : Type 0 where
 -- ---- all that came so far
 
 -- a receiver started fresh, after any list of bits, says to the next bit what the definition over all bits says: the
--- answer, and the group beside it. (Any numbers may come; what is no bit is refused.)
+-- answer, and its group, the empty one where none is answered. (Any numbers may come; what is no bit is refused.)
 pub record ReceiverAgrees : Type 0 where
   pub answer : (bits : List ℕ) (bit : ℕ) → (step_of (fed_of receiver.fresh_of bits) bit).answer ≡ (heard bits bit).answer
-  pub group : (bits : List ℕ) (bit : ℕ) → (step_of (fed_of receiver.fresh_of bits) bit).group ≡ (heard bits bit).group
+  pub group : (bits : List ℕ) (bit : ℕ)
+      → group_of (step_of (fed_of receiver.fresh_of bits) bit).answer ≡ group_of (heard bits bit).answer
 
 -- a receiver so reached, saved in a buffer that is long enough, is restored the same
 pub record StateBack : Type 0 where

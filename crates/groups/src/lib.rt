@@ -15,7 +15,7 @@ use blocks::{Judged, Kind};
 pub const PLACES: usize = 4;
 
 // Four words and which of them were good. Made only by `empty`, `with_block` and `all_good`.
-#[derive(Clone, Copy)]
+#[derive(Clone, Copy, PartialEq, Eq)]
 pub struct Group {
     pub words: [u16; 4],
     pub good: [bool; 4],

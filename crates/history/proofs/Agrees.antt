@@ -1,13 +1,14 @@
 -- The receiver started fresh says, at every bit, what the definition over all bits says. Any numbers may come: what is
 -- no bit is refused by both. A step keeps the relation between state and history, so it holds after any list.
 use Prim.Native.Nat.{ℕ, ◌<◌, ◌≤◌}
-use mathlib.Core.Path.{◌≡◌, refl}
+use mathlib.Core.Path.{◌≡◌, refl, ap}
 use mathlib.Core.List.{List, [], ◌∷◌}
 use mathlib.Core.Logic.{⊎_elim}
 use native.Mathlib.Omega.{arith}
 use borrow.Author.Tests.{lt-ltb, le-ltb}
 use Rattle.bits.proofs.Order.{lt-or-le}
 use Rattle.receiver.specs.declared.Receiver.{Receiver}
+use Rattle.receiver.specs.Answers.{group_of}
 use Rattle.receiver.specs.Machine.{fresh_of, step_of, fed_of}
 use Rattle.history.specs.Locked.{place_at, second_before}
 use Rattle.history.specs.Heard.{Phase, hunting, locked, heard_in, phase_after, heard}
@@ -20,7 +21,7 @@ use Rattle.history.proofs.Following.{fresh_hunts, follow_agrees}
 refused_agrees : (r : Receiver) (phase : Phase) (bit : ℕ) → Holds r phase → 1 < bit
     → Agrees (step_of r bit) (heard_in phase bit)
 unfolding step_of heard_in
-refused_agrees r phase bit holds h = rw (lt-ltb 1 bit h) (record { holds = holds; answer = refl; group = refl })
+refused_agrees r phase bit holds h = rw (lt-ltb 1 bit h) (record { holds = holds; answer = refl })
 
 bit_agrees : (r : Receiver) (phase : Phase) (bit : ℕ) → Holds r phase → bit ≤ 1
     → Agrees (step_of r bit) (heard_in phase bit)
@@ -45,8 +46,8 @@ fed-holds r phase (bit ∷ bits) holds =
 -- for every list of numbers, and at every number after it
 pub receiver_agrees : (bits : List ℕ) (bit : ℕ)
     → ((step_of (fed_of fresh_of bits) bit).answer ≡ (heard bits bit).answer)
-    × ((step_of (fed_of fresh_of bits) bit).group ≡ (heard bits bit).group)
+    × (group_of (step_of (fed_of fresh_of bits) bit).answer ≡ group_of (heard bits bit).answer)
 unfolding heard
 receiver_agrees bits bit =
     let agrees = step_agrees (fed_of fresh_of bits) (phase_after (hunting []) bits) bit
-    (fed-holds fresh_of (hunting []) bits fresh_hunts) in (agrees.answer, agrees.group)
+    (fed-holds fresh_of (hunting []) bits fresh_hunts) in (agrees.answer, ap group_of agrees.answer)

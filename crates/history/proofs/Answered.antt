@@ -16,36 +16,36 @@ use Rattle.groups.specs.declared.Group.{Group}
 use Rattle.receiver.specs.declared.Answer.{Answer}
 use Rattle.receiver.specs.declared.Answer.TheVariants as answer
 use Rattle.receiver.specs.declared.Receiver.{Receiver}
-use Rattle.receiver.specs.Answers.{brings_group}
+use Rattle.receiver.specs.Answers.{brings_group, group_of}
 use Rattle.receiver.specs.Machine.{fresh_of, step_of, fed_of}
 use Rattle.blocks.specs.Damage.{block_bits}
-use Rattle.groups.specs.Group.{places, empty_of}
+use Rattle.groups.specs.Group.{places}
 use Rattle.history.specs.Streams.{bits_from, ValidBlocks, sent_group, sent_groups}
-use Rattle.history.specs.Streams.{ends_group, sent_start, answer_at, group_at}
+use Rattle.history.specs.Streams.{ends_group, sent_start, answer_at}
 use Rattle.history.proofs.Streams.{stream_received}
 
 -- ---- the groups that are answered
 
 -- with one bit: a group or none
-abbrev pub answered_with : Answer → Group → List Group
-answered_with said group = cond (brings_group said) (group ∷ []) []
+abbrev pub answered_with : Answer → List Group
+answered_with said = cond (brings_group said) (group_of said ∷ []) []
 
 -- with a list of bits, the first of them first
 unfoldable pub answered_of : Receiver → List ℕ → List Group
 answered_of r [] = []
 answered_of r (bit ∷ bits) =
-    answered_with (step_of r bit).answer (step_of r bit).group ++ answered_of (step_of r bit).next bits
+    answered_with (step_of r bit).answer ++ answered_of (step_of r bit).next bits
 
 -- with one bit more
 pub answered-more : (r : Receiver) (bits : List ℕ) (bit : ℕ)
     → answered_of r (bits ++ bit ∷ [])
-    ≡ answered_of r bits ++ answered_with (step_of (fed_of r bits) bit).answer (step_of (fed_of r bits) bit).group
+    ≡ answered_of r bits ++ answered_with (step_of (fed_of r bits) bit).answer
 unfolding answered_of fed_of
 answered-more r [] bit = append-nil _
 answered-more r (b ∷ bits) bit =
-    ap (λ (l : List Group). answered_with (step_of r b).answer (step_of r b).group ++ l)
+    ap (λ (l : List Group). answered_with (step_of r b).answer ++ l)
     (answered-more (step_of r b).next bits bit)
-    ∙ sym (append_assoc (answered_with (step_of r b).answer (step_of r b).group) (answered_of (step_of r b).next bits) _)
+    ∙ sym (append_assoc (answered_with (step_of r b).answer) (answered_of (step_of r b).next bits) _)
 
 -- ---- how many groups have ended
 
@@ -97,9 +97,9 @@ none_ended s k none = ⊎_elim whole (λ inside. omega arith) (eq-or-lt_of_le {n
 
 -- one bit answers the group that ends with it
 answered-at : (f : ℕ → ℕ) (s k : ℕ)
-    → sent_groups f (first_group s) (ended_groups s k) ++ answered_with (answer_at s (suc k)) (group_at f s (suc k))
+    → sent_groups f (first_group s) (ended_groups s k) ++ answered_with (answer_at f s (suc k))
     ≡ sent_groups f (first_group s) (ended_groups s (suc k))
-unfolding answer_at group_at sent_groups
+unfolding answer_at sent_groups
 answered-at f s k = told (ends_group s (suc k)) refl (eqb (suc k) 52) refl
   where
     same : ends_group s (suc k) ≡ false
@@ -111,8 +111,8 @@ answered-at f s k = told (ends_group s (suc k)) refl (eqb (suc k) 52) refl
 
     told : (t : Bool) → ends_group s (suc k) ≡ t → (u : Bool) → eqb (suc k) 52 ≡ u
         → sent_groups f (first_group s) (ended_groups s k)
-        ++ answered_with (cond u answer.Locked (cond t answer.Group answer.Nothing))
-        (cond t (sent_group f (sent_start s (suc k))) empty_of)
+        ++ answered_with
+        (cond u answer.Locked (cond t (answer.Group (sent_group f (sent_start s (suc k)))) answer.Nothing))
         ≡ sent_groups f (first_group s) (ended_groups s (suc k))
     told true e true l =
         let at : suc k ≡ 52 = eqb-true (suc k) 52 l in let ends = ends_is s (suc k) e in absurd (omega arith)
@@ -133,7 +133,7 @@ module _ (f : ℕ → ℕ) (bits : Bits f) (s n : ℕ) (valid : ValidBlocks f s 
   groups_answered (suc k) h =
       let received = stream_received f bits s n valid k h in
       answered-more fresh_of (bits_from f (26 * s) k) (f (26 * s + k))
-      ∙ rw (groups_answered k (omega arith), received.0, received.1, add-one k) (answered-at f s k)
+      ∙ rw (groups_answered k (omega arith), received.0, add-one k) (answered-at f s k)
 
 -- whole groups from the first bit on: all of them, in order
 pub all-groups-answered : (f : ℕ → ℕ) → Bits f → (n : ℕ) → ValidBlocks f 0 (places * n)

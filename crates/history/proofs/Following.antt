@@ -1,7 +1,7 @@
 -- A bit while locked: inside a block only the window grows; at a block's end the group in hand, the place and the run
 -- move on together. What stood before that block is judged as it was.
 use Prim.Native.Nat.{ℕ, suc, ◌+◌, ◌*◌, ◌-◌, ◌/◌, ◌%◌, ◌<◌, ◌≤◌}
-use mathlib.Core.Path.{◌≡◌, refl, sym, ◌∙◌}
+use mathlib.Core.Path.{◌≡◌, refl, sym, ap, ◌∙◌}
 use mathlib.Core.List.{List, [], ◌∷◌, ◌++◌}
 use mathlib.Core.Bool.{Bool, true, false, cond, and-eq-true_iff}
 use mathlib.Core.Logic.{⊎_elim}
@@ -133,7 +133,6 @@ module _
             };
           };
           answer = refl;
-          group = refl;
         })
 
 -- ---- the last bit of a block
@@ -260,14 +259,15 @@ module _
         let start : m - 3 ≡ group_start (m + 1) = omega arith in
         hand-filled (omega arith) ∙ rw (fourth, start) (filled-group judged (group_start (m + 1)))
 
-    group-is : cond (completes_at kind (m + 1)) hand-with empty_of
-        ≡ cond (completes_at kind (m + 1)) (group_from judged (group_start (m + 1))) empty_of
-    group-is = told (completes_at kind (m + 1)) refl
+    answer-is : (lost : Bool) → say_of (completes_at kind (m + 1)) lost hand-with
+        ≡ say_of (completes_at kind (m + 1)) lost (group_from judged (group_start (m + 1)))
+    answer-is lost = told (completes_at kind (m + 1)) refl lost
       where
-        told : (t : Bool) → completes_at kind (m + 1) ≡ t
-            → cond t hand-with empty_of ≡ cond t (group_from judged (group_start (m + 1))) empty_of
-        told true e = group-done e
-        told false e = refl
+        told : (done : Bool) → completes_at kind (m + 1) ≡ done → (lost : Bool)
+            → say_of done lost hand-with ≡ say_of done lost (group_from judged (group_start (m + 1)))
+        told true e lost = ap (say_of true lost) (group-done e)
+        told false e true = refl
+        told false e false = refl
 
     -- ---- the step
 
@@ -321,16 +321,14 @@ module _
         told : (lost : Bool) → Agrees
             (record {
               next = cond lost fresh_of state-after;
-              answer = say_of (completes_at kind (m + 1)) lost;
-              group = cond (completes_at kind (m + 1)) hand-with empty_of;
+              answer = say_of (completes_at kind (m + 1)) lost hand-with;
             })
             (record {
               phase = cond lost (hunting []) (locked kind all-bits);
-              answer = say_of (completes_at kind (m + 1)) lost;
-              group = cond (completes_at kind (m + 1)) (group_from judged (group_start (m + 1))) empty_of;
+              answer = say_of (completes_at kind (m + 1)) lost (group_from judged (group_start (m + 1)));
             })
-        told true = record { holds = fresh_hunts; answer = refl; group = group-is }
-        told false = record { holds = after-follows; answer = refl; group = group-is }
+        told true = record { holds = fresh_hunts; answer = answer-is true }
+        told false = record { holds = after-follows; answer = answer-is false }
 
     end-agrees : Agrees (follow_of (state_at kind bits m 25 hand) bit) (followed_on kind all-bits)
     unfolding follow_of followed_on

@@ -96,7 +96,7 @@ module _ (bits : List ℕ) (all : Bits (listed bits)) where
   -- no lock is taken
   silent-agrees : (count : ℕ) → count ≡ min (length bits) 52
       → Agrees (silent_of (hunting_of (spelled bits % 2 ^ 52) count)) (silent_in (hunting bits))
-  silent-agrees count e = record { holds = record { is = rw e; all = all }; answer = refl; group = refl }
+  silent-agrees count e = record { holds = record { is = rw e; all = all }; answer = refl }
 
   -- the last 52 are tried
   tried-agrees : 52 ≤ length bits → (lock : Option Lock)
@@ -109,7 +109,6 @@ module _ (bits : List ℕ) (all : Bits (listed bits)) where
             (rw (length-drop (length bits - 52) bits) (omega arith)) lock.kind lock.older lock.newer
             (lock-pair (block_of (last_pair bits) 0) (block_of (last_pair bits) 1) lock.kind lock.older lock.newer e);
         answer = refl;
-        group = refl;
       }
   tried-agrees h None e = silent-agrees 52 (omega arith)
 

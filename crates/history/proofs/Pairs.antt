@@ -15,7 +15,6 @@ use Rattle.blocks.specs.Block.{word_of, limit, Valid}
 use Rattle.blocks.specs.declared.Kind.{Kind}
 use Rattle.blocks.specs.declared.Kind.TheVariants.{A, B}
 use Rattle.blocks.proofs.Reading.{read-valid, judge-valid}
-use Rattle.groups.specs.Group.{empty_of}
 use Rattle.receiver.specs.declared.Answer.TheVariants as answer
 use Rattle.receiver.specs.Rules.{pair_bits, follower_of, locking, lock_of}
 use Rattle.receiver.specs.Machine.{fresh_of, step_of, fed_of}
@@ -36,7 +35,7 @@ lock-valid older newer kind h l v w =
 -- the first 52 bits, where they lock
 pair-locked : (bits : List ℕ) (kind : Kind) (word next : ℕ) → length bits ≡ 52
     → lock_of (block_of bits 0) (block_of bits 1) ≡ locking kind word next
-    → hunted_on bits ≡ record { phase = locked kind bits; answer = answer.Locked; group = empty_of }
+    → hunted_on bits ≡ record { phase = locked kind bits; answer = answer.Locked }
 unfolding hunted_on
 pair-locked bits kind word next long e =
     let none : length bits - 52 ≡ 0 = omega arith in rw (enough_true bits (omega arith), none, e) (rw none)
@@ -66,7 +65,7 @@ module _ (f : ℕ → ℕ) (i : ℕ) (small : (j : ℕ) → j < 52 → f (i + j)
   -- the 52nd bit, where the pair locks
   pub locks_on : (kind : Kind) (word next : ℕ) → lock_of (spell f i 26) (spell f (i + 26) 26) ≡ locking kind word next
       → heard_in (hunting (bits_from f i 51)) (f (i + 51))
-      ≡ record { phase = locked kind (bits_from f i 52); answer = answer.Locked; group = empty_of }
+      ≡ record { phase = locked kind (bits_from f i 52); answer = answer.Locked }
   locks_on kind word next e =
       one_more 51 (omega arith)
       ∙ pair-locked (bits_from f i 52) kind word next (length_from f i 52)

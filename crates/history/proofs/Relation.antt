@@ -65,4 +65,3 @@ Holds r (locked kind bits) = Follows r kind bits
 pub record Agrees (step : Step) (heard : Heard) : Type 0 where
   pub holds : Holds step.next heard.phase
   pub answer : step.answer ≡ heard.answer
-  pub group : step.group ≡ heard.group

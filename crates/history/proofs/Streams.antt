@@ -4,7 +4,7 @@
 use Prim.Native.Nat.{ℕ, zero, suc, ◌+◌, ◌*◌, ◌-◌, ◌/◌, ◌%◌, ◌<◌, ◌≤◌}
 use mathlib.Core.Path.{◌≡◌, refl, sym, ap, subst, ◌∙◌}
 use mathlib.Core.List.{List, []}
-use mathlib.Core.Bool.{Bool, true, false, cond, ◌&&◌, and-false, and-eq-true_iff}
+use mathlib.Core.Bool.{Bool, true, false, cond, ◌&&◌, and-false, and-eq-true_iff, true≢false}
 use mathlib.Core.Logic.{⊎_elim}
 use native.Mathlib.Nat.{eq-or-lt_of_le}
 use native.Mathlib.Numerals.{add-one}
@@ -24,6 +24,7 @@ use Rattle.groups.specs.Group.{empty_of}
 use Rattle.groups.specs.Header.{third_kind, expected_of}
 use Rattle.receiver.specs.declared.Answer.TheVariants as answer
 use Rattle.receiver.specs.Rules.{follower_of, locking, lock_of, judged_at, loses_of, say_of}
+use Rattle.receiver.specs.Answers.{group_of}
 use Rattle.receiver.specs.Machine.{fresh_of, step_of, fed_of}
 use Rattle.history.specs.Locked.{place_of, place_at, second_before, judged_in, group_from, completes_at, bads_from}
 use Rattle.history.specs.Locked.{loses_at}
@@ -186,15 +187,15 @@ module _ (f : ℕ → ℕ) (bits : Bits f) (s n : ℕ) (valid : ValidBlocks f s 
 
   -- what is heard with the k-th bit
   abbrev heard-at : Phase → ℕ → Heard
-  heard-at phase k = record { phase = phase; answer = answer_at s k; group = group_at f s k }
+  heard-at phase k = record { phase = phase; answer = answer_at f s k }
 
   inside-sent : (k : ℕ) → 52 < k → (k % 26 ≡ 0 → ⊥) → followed_on kind (fed k) ≡ heard-at (locked kind (fed k)) k
-  unfolding followed_on answer_at group_at ends_group
+  unfolding followed_on answer_at ends_group
   inside-sent k h within =
       rw (length_from f (26 * s) k, ne_eqb k 52 (omega arith), ne_eqb (k % 26) 0 within)
 
   ended-sent : (k : ℕ) → 52 < k → k ≤ 26 * n → k % 26 ≡ 0 → followed_on kind (fed k) ≡ heard-at (locked kind (fed k)) k
-  unfolding followed_on ended_on answer_at group_at ends_group
+  unfolding followed_on ended_on answer_at ends_group
   ended-sent k h within whole =
       rw (
         length_from f (26 * s) k,
@@ -210,13 +211,11 @@ module _ (f : ℕ → ℕ) (bits : Bits f) (s n : ℕ) (valid : ValidBlocks f s 
           → ◌≡◌ {A = Heard}
           (record {
             phase = locked kind (fed k);
-            answer = say_of t false;
-            group = cond t (group_from (judged_in kind (fed k)) (k / 26 - 4)) empty_of;
+            answer = say_of t false (group_from (judged_in kind (fed k)) (k / 26 - 4));
           })
           (record {
             phase = locked kind (fed k);
-            answer = cond t answer.Group answer.Nothing;
-            group = cond t (sent_group f (sent_start s k)) empty_of;
+            answer = cond t (answer.Group (sent_group f (sent_start s k))) answer.Nothing;
           })
       told true e =
           let parts = (and-eq-true_iff (eqb ((s + k / 26) % 4) 0) (lies_whole k)).0 e in
@@ -244,7 +243,7 @@ module _ (f : ℕ → ℕ) (bits : Bits f) (s n : ℕ) (valid : ValidBlocks f s 
   phase-at k = cond (ltb k 52) (hunting (fed k)) (locked kind (fed k))
 
   hunting-step : (k : ℕ) → k + 1 < 52 → heard_in (phase-at k) (f (26 * s + k)) ≡ heard-at (phase-at (suc k)) (suc k)
-  unfolding phase-at answer_at group_at
+  unfolding phase-at answer_at
   hunting-step k h =
       rw (
         lt-ltb k 52 (omega arith),
@@ -255,10 +254,9 @@ module _ (f : ℕ → ℕ) (bits : Bits f) (s n : ℕ) (valid : ValidBlocks f s 
       (hunts_on f (26 * s) (λ j _. bits (26 * s + j)) k h)
 
   locking-step : 2 ≤ n → heard_in (phase-at 51) (f (26 * s + 51)) ≡ heard-at (phase-at 52) 52
-  unfolding phase-at answer_at group_at
+  unfolding phase-at answer_at
   locking-step h =
       let next : 26 * s + 26 ≡ 26 * (s + 1) = omega arith in
-      rw (no_group 52 (omega arith))
       (locks_on f (26 * s) (λ j _. bits (26 * s + j)) kind (sent_word f s) (sent_word f (s + 1)) (rw next (first-lock h)))
 
   following-step : (k : ℕ) → 52 ≤ k → k < 26 * n
@@ -294,13 +292,28 @@ module _ (f : ℕ → ℕ) (bits : Bits f) (s n : ℕ) (valid : ValidBlocks f s 
 
   -- ---- the law
 
-  -- the answer to bit i of those that are fed from block s on, and the group beside it
+  -- the group of an answer; locked, none has ended
+  group-answered : (k : ℕ) → group_of (answer_at f s k) ≡ group_at f s k
+  unfolding answer_at group_at
+  group-answered k = told (eqb k 52) refl (ends_group s k) refl
+    where
+      told : (u : Bool) → eqb k 52 ≡ u → (t : Bool) → ends_group s k ≡ t
+          → group_of (cond u answer.Locked (cond t (answer.Group (sent_group f (sent_start s k))) answer.Nothing))
+          ≡ cond t (sent_group f (sent_start s k)) empty_of
+      told true e true l =
+          let at : k ≡ 52 = eqb-true k 52 e in absurd (true≢false (sym l ∙ no_group k (omega arith)))
+      told true e false l = refl
+      told false e true l = refl
+      told false e false l = refl
+
+  -- the answer to bit i of those that are fed from block s on, and its group
   pub stream_received : (i : ℕ) → i < block_bits * n
-      → ((step_of (fed_of fresh_of (bits_from f (block_bits * s) i)) (f (block_bits * s + i))).answer ≡ answer_at s (i + 1))
-      × ((step_of (fed_of fresh_of (bits_from f (block_bits * s) i)) (f (block_bits * s + i))).group ≡ group_at f s (i + 1))
+      → ((step_of (fed_of fresh_of (bits_from f (block_bits * s) i)) (f (block_bits * s + i))).answer ≡ answer_at f s (i + 1))
+      × (group_of (step_of (fed_of fresh_of (bits_from f (block_bits * s) i)) (f (block_bits * s + i))).answer
+      ≡ group_at f s (i + 1))
   stream_received i h =
       let agrees = receiver_agrees (fed i) (f (26 * s + i)) in
       rw (add-one i) (
         agrees.0 ∙ ap (λ (t : Heard). t.answer) (heard-sent i h),
-        agrees.1 ∙ ap (λ (t : Heard). t.group) (heard-sent i h),
+        agrees.1 ∙ ap (λ (t : Heard). group_of t.answer) (heard-sent i h) ∙ group-answered (suc i),
       )

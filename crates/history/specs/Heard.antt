@@ -2,8 +2,6 @@
 use Rattle.std.specs.Prelude.{ℕ, ◌-◌, ◌/◌, ◌%◌, List, [], ◌∷◌, ◌++◌, Bool, cond, eqb, ltb, leb, length, drop}
 use Rattle.blocks.specs.Damage.{block_bits}
 use Rattle.blocks.specs.declared.Kind.{Kind}
-use Rattle.groups.specs.declared.Group.{Group}
-use Rattle.groups.specs.Group.{empty_of}
 use Rattle.receiver.specs.declared.Lock.{Lock}
 use Rattle.std.specs.Prelude.{Option, Some, None}
 use Rattle.receiver.specs.declared.Answer.{Answer}
@@ -19,15 +17,14 @@ pub data Phase : Type 0 where
   hunting : List ℕ → Phase
   locked : Kind → List ℕ → Phase
 
--- what is heard with a bit: what has come now, the answer, and the group beside it
+-- what is heard with a bit: what has come now, and the answer, which holds the group that is answered
 pub record Heard : Type 0 where
   pub phase : Phase
   pub answer : Answer
-  pub group : Group
 
 -- nothing is answered
 abbrev pub silent_in : Phase → Heard
-silent_in phase = record { phase = phase; answer = answer.Nothing; group = empty_of }
+silent_in phase = record { phase = phase; answer = answer.Nothing }
 
 -- ---- hunting
 
@@ -38,7 +35,7 @@ last_pair bits = drop (length bits - pair_bits) bits
 -- they were tried; where they lock, they are the pair
 abbrev pub tried_on : List ℕ → Option Lock → Heard
 tried_on bits (Some lock) =
-    record { phase = locked lock.kind (last_pair bits); answer = answer.Locked; group = empty_of }
+    record { phase = locked lock.kind (last_pair bits); answer = answer.Locked }
 tried_on bits None = silent_in (hunting bits)
 
 -- 52 bits have come since hunting began
@@ -59,8 +56,7 @@ unfoldable pub ended_on : Kind → List ℕ → ℕ → Heard
 ended_on kind bits m =
     record {
       phase = cond (loses_at kind bits m) (hunting []) (locked kind bits);
-      answer = say_of (completes_at kind m) (loses_at kind bits m);
-      group = cond (completes_at kind m) (group_from (judged_in kind bits) (group_start m)) empty_of;
+      answer = say_of (completes_at kind m) (loses_at kind bits m) (group_from (judged_in kind bits) (group_start m));
     }
 
 -- each 26 bits are one block
@@ -78,7 +74,7 @@ heard_with (locked kind bits) bit = followed_on kind (bits ++ bit ∷ [])
 -- a bit that is neither 0 nor 1 is refused and is none of the bits that came
 unfoldable pub heard_in : Phase → ℕ → Heard
 heard_in phase bit =
-    cond (ltb 1 bit) (record { phase = phase; answer = answer.Refused; group = empty_of }) (heard_with phase bit)
+    cond (ltb 1 bit) (record { phase = phase; answer = answer.Refused }) (heard_with phase bit)
 
 -- what has come after these bits, the first of them first
 unfoldable pub phase_after : Phase → List ℕ → Phase

@@ -62,8 +62,11 @@ abbrev pub sent_start : ℕ → ℕ → ℕ
 sent_start s n = s + n / block_bits - places
 
 -- locked at bit 52, then each whole group at its last bit, nothing else
-unfoldable pub answer_at : ℕ → ℕ → Answer
-answer_at s n = cond (eqb n pair_bits) answer.Locked (cond (ends_group s n) answer.Group answer.Nothing)
+unfoldable pub answer_at : (ℕ → ℕ) → ℕ → ℕ → Answer
+answer_at f s n =
+    cond (eqb n pair_bits) answer.Locked
+    (cond (ends_group s n) (answer.Group (sent_group f (sent_start s n))) answer.Nothing)
 
+-- the group of that answer; the empty one where none is answered
 unfoldable pub group_at : (ℕ → ℕ) → ℕ → ℕ → Group
 group_at f s n = cond (ends_group s n) (sent_group f (sent_start s n)) empty_of

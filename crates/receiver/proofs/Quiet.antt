@@ -18,7 +18,7 @@ use Rattle.receiver.specs.Rules.{pair_bits, lock_of}
 use Rattle.receiver.specs.Machine.{shift_of, newer_of, older_of, hunting_of, is_hunting_of, silent_of, tried_of, hunt_of}
 use Rattle.receiver.specs.Machine.{inside_of, follow_of, step_of}
 use Rattle.receiver.specs.Feeding.{byte_bits, stopped_of, advance_of}
-use Rattle.receiver.specs.Strides.{answering_of, window_limit, lock_after_of, count_after_of, hunted_of, lock_answer_of}
+use Rattle.receiver.specs.Strides.{window_limit, lock_after_of, count_after_of, hunted_of, lock_answer_of}
 use Rattle.receiver.specs.Strides.{taken_in_of, then_of}
 use Rattle.receiver.proofs.Feeds.{feed-one}
 
@@ -29,22 +29,26 @@ pub shift-limit : (window bit : ℕ) → bit < 2 → shift_of window bit < windo
 shift-limit window bit h = omega arith
 
 tried_parts : (window : ℕ) (lock : Option Lock)
-    → tried_of window lock ≡ answering_of (hunted_of lock window pair_bits) (lock_answer_of lock)
+    → tried_of window lock ≡ record { next = hunted_of lock window pair_bits; answer = lock_answer_of lock }
 tried_parts window (Some lock) = refl
 tried_parts window None = refl
 
 -- a hunting bit, from its parts
 pub hunt_parts : (window count bit : ℕ) → hunt_of window count bit
-    ≡ answering_of (hunted_of (lock_after_of (shift_of window bit) count) (shift_of window bit) (count_after_of count))
-    (lock_answer_of (lock_after_of (shift_of window bit) count))
+    ≡ record {
+      next = hunted_of (lock_after_of (shift_of window bit) count) (shift_of window bit) (count_after_of count);
+      answer = lock_answer_of (lock_after_of (shift_of window bit) count);
+    }
 unfolding hunt_of lock_after_of count_after_of
 hunt_parts window count bit =
     by (ltb (count + 1) pair_bits) (lock_of (older_of (shift_of window bit)) (newer_of (shift_of window bit)))
   where
     by : (test : Bool) (lock : Option Lock)
         → cond test (silent_of (hunting_of (shift_of window bit) (count + 1))) (tried_of (shift_of window bit) lock)
-        ≡ answering_of (hunted_of (cond test None lock) (shift_of window bit) (cond test (count + 1) pair_bits))
-        (lock_answer_of (cond test None lock))
+        ≡ record {
+          next = hunted_of (cond test None lock) (shift_of window bit) (cond test (count + 1) pair_bits);
+          answer = lock_answer_of (cond test None lock);
+        }
     by true lock = refl
     by false lock = tried_parts (shift_of window bit) lock
 

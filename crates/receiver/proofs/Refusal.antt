@@ -1,5 +1,5 @@
--- Laws of the refusal: a bit is answered 9 exactly if it is neither 0 nor 1, and then nothing changes. And a group stands
--- beside an answer only where one is answered.
+-- Laws of the refusal: a bit is answered 9 exactly if it is neither 0 nor 1, and then nothing changes. And the group of an
+-- answer that brings none is the empty one.
 use Prim.Native.Nat.{ℕ, ◌+◌, ◌<◌}
 use mathlib.Core.Path.{◌≡◌, refl, sym, ◌∙◌}
 use mathlib.Core.Bool.{Bool, true, false, cond, true≢false}
@@ -13,19 +13,20 @@ use Rattle.receiver.specs.declared.Lock.{Lock}
 use Rattle.std.specs.Prelude.{Option, Some, None}
 use Rattle.receiver.specs.declared.Receiver.{Receiver}
 use Rattle.receiver.specs.declared.Step.{Step}
+use Rattle.receiver.specs.declared.Answer.{Answer}
 use Rattle.receiver.specs.declared.Answer.TheVariants as answer
 use Rattle.receiver.specs.Rules.{pair_bits, lock_of, say_of}
-use Rattle.receiver.specs.Answers.{answer_number, bit_number, brings_group}
-use Rattle.receiver.specs.Machine.{shift_of, older_of, newer_of, tried_of, hunt_of, ended_of, follow_of, is_hunting_of, completes_of, given_of, step_of}
+use Rattle.receiver.specs.Answers.{answer_number, bit_number, brings_group, group_of}
+use Rattle.receiver.specs.Machine.{shift_of, older_of, newer_of, tried_of, hunt_of, ended_of, follow_of, is_hunting_of, completes_of, step_of}
 
 -- ---- the number of an answer
 
 -- at a block's end nothing is refused
-say-number : (done lost : Bool) → answer_number (say_of done lost) ≡ 0
-say-number false false = refl
-say-number false true = refl
-say-number true false = refl
-say-number true true = refl
+say-number : (done lost : Bool) (group : Group) → answer_number (say_of done lost group) ≡ 0
+say-number false false group = refl
+say-number false true group = refl
+say-number true false group = refl
+say-number true true group = refl
 
 tried-number : (window : ℕ) (lock : Option Lock) → answer_number (tried_of window lock).answer ≡ 0
 tried-number window (Some lock) = refl
@@ -45,14 +46,14 @@ hunt-number window count bit =
 
 follow-number : (r : Receiver) (bit : ℕ) → answer_number (follow_of r bit).answer ≡ 0
 unfolding follow_of ended_of
-follow-number r bit = either_number (ltb (r.count + 1) block_bits) _ _ refl (say-number (completes_of r.place r.held) _)
+follow-number r bit = either_number (ltb (r.count + 1) block_bits) _ _ refl (say-number (completes_of r.place r.held) _ _)
 
 -- 9 exactly if the bit is neither 0 nor 1
 pub step-number : (r : Receiver) (bit : ℕ) → answer_number (step_of r bit).answer ≡ bit_number bit
 unfolding step_of
 step-number r bit = by (ltb 1 bit)
   where
-    by : (test : Bool) → answer_number (cond test (record { next = r; answer = answer.Refused; group = empty_of })
+    by : (test : Bool) → answer_number (cond test (record { next = r; answer = answer.Refused })
         (cond (is_hunting_of r.place) (hunt_of r.window r.count bit) (follow_of r bit))).answer ≡ cond test 9 0
     by true = refl
     by false = either_number (is_hunting_of r.place) _ _ (hunt-number r.window r.count bit) (follow-number r bit)
@@ -66,7 +67,7 @@ step_settled s r bit e = (e, rw e (step-number r bit))
 
 -- a refused bit is answered 9, and the state comes back as it was
 pub refused-same : (r : Receiver) (bit : ℕ) → 1 < bit
-    → step_of r bit ≡ record { next = r; answer = answer.Refused; group = empty_of }
+    → step_of r bit ≡ record { next = r; answer = answer.Refused }
 unfolding step_of
 refused-same r bit h = rw (lt-ltb 1 bit h)
 
@@ -81,39 +82,18 @@ only-refused_9 r bit h = by (ltb 1 bit) refl
     by true e = ltb-true 1 bit e
     by false e = let n : bit_number bit ≡ 0 = rw e in omega (arith, sym (step-number r bit) ∙ h, n)
 
--- ---- the group beside an answer
+-- ---- the group of an answer
 
-say-group : (done lost : Bool) (hand : Group) → brings_group (say_of done lost) ≡ false → given_of done hand ≡ empty_of
-say-group false false hand e = refl
-say-group false true hand e = refl
-say-group true false hand e = absurd (true≢false e)
-say-group true true hand e = absurd (true≢false e)
-
-either-group : (test : Bool) (s t : Step) → (brings_group s.answer ≡ false → s.group ≡ empty_of)
-    → (brings_group t.answer ≡ false → t.group ≡ empty_of)
-    → brings_group (cond test s t).answer ≡ false → (cond test s t).group ≡ empty_of
-either-group true s t p q = p
-either-group false s t p q = q
-
-tried-group : (window : ℕ) (lock : Option Lock) → (tried_of window lock).group ≡ empty_of
-tried-group window (Some lock) = refl
-tried-group window None = refl
-
-hunt-group : (window count bit : ℕ) → brings_group (hunt_of window count bit).answer ≡ false
-    → (hunt_of window count bit).group ≡ empty_of
-unfolding hunt_of
-hunt-group window count bit =
-    either-group (ltb (count + 1) pair_bits) _ _ (λ _. refl)
-    (λ _. tried-group (shift_of window bit) (lock_of (older_of (shift_of window bit)) (newer_of (shift_of window bit))))
-
-follow-group : (r : Receiver) (bit : ℕ) → brings_group (follow_of r bit).answer ≡ false → (follow_of r bit).group ≡ empty_of
-unfolding follow_of ended_of
-follow-group r bit =
-    either-group (ltb (r.count + 1) block_bits) _ _ (λ _. refl) (say-group (completes_of r.place r.held) _ _)
+-- an answer that brings none has the empty one
+pub none-brought : (said : Answer) → brings_group said ≡ false → group_of said ≡ empty_of
+none-brought answer.Nothing e = refl
+none-brought answer.Locked e = refl
+none-brought (answer.Group group) e = absurd (true≢false e)
+none-brought answer.Lost e = refl
+none-brought (answer.GroupAndLost group) e = absurd (true≢false e)
+none-brought answer.Refused e = refl
 
 -- where no group is answered it is the empty one
-pub no-group-empty : (r : Receiver) (bit : ℕ) → brings_group (step_of r bit).answer ≡ false → (step_of r bit).group ≡ empty_of
-unfolding step_of
-no-group-empty r bit =
-    either-group (ltb 1 bit) _ _ (λ _. refl)
-    (either-group (is_hunting_of r.place) _ _ (hunt-group r.window r.count bit) (follow-group r bit))
+pub no-group-empty : (r : Receiver) (bit : ℕ) → brings_group (step_of r bit).answer ≡ false
+    → group_of (step_of r bit).answer ≡ empty_of
+no-group-empty r bit = none-brought (step_of r bit).answer

@@ -1,13 +1,12 @@
--- What the derived equalities say of hunting and of the answer nothing.
-use mathlib.Core.Path.{◌≡◌, refl, sym}
-use mathlib.Core.Bool.{true, false, not, true≢false}
+-- What the derived equality says of hunting; and an answer that is another than nothing.
+use mathlib.Core.Path.{◌≡◌, refl}
+use mathlib.Core.Bool.{false}
 use denote.Enum.Bare.{sameb}
 use Rattle.receiver.specs.declared.Place.{Place}
 use Rattle.receiver.specs.declared.Place.TheVariants.{Hunting, First, Second, ThirdC, ThirdCPrime, ThirdBad, Fourth}
 use Rattle.receiver.specs.declared.Answer.{Answer}
 use Rattle.receiver.specs.declared.Answer.TheVariants as answer
 use Rattle.receiver.specs.contracts.Place as place
-use Rattle.receiver.specs.contracts.Answer as answers
 use Rattle.receiver.specs.Machine.{is_hunting_of}
 use Rattle.receiver.specs.Feeding.{is_nothing_of}
 
@@ -20,18 +19,10 @@ same-hunting ThirdCPrime = refl
 same-hunting ThirdBad = refl
 same-hunting Fourth = refl
 
-pub same-nothing : (a : Answer) → not (sameb answers.the_type a answer.Nothing) ≡ false → is_nothing_of a ≡ true
-same-nothing answer.Nothing e = refl
-same-nothing answer.Locked e = absurd (true≢false e)
-same-nothing answer.Group e = absurd (true≢false e)
-same-nothing answer.Lost e = absurd (true≢false e)
-same-nothing answer.GroupAndLost e = absurd (true≢false e)
-same-nothing answer.Refused e = absurd (true≢false e)
-
-pub other-nothing : (a : Answer) → not (sameb answers.the_type a answer.Nothing) ≡ true → is_nothing_of a ≡ false
-other-nothing answer.Nothing e = absurd (true≢false (sym e))
-other-nothing answer.Locked e = refl
-other-nothing answer.Group e = refl
-other-nothing answer.Lost e = refl
-other-nothing answer.GroupAndLost e = refl
-other-nothing answer.Refused e = refl
+pub other-nothing : (a : Answer) → (a ≡ answer.Nothing → ⊥) → is_nothing_of a ≡ false
+other-nothing answer.Nothing other = absurd (other refl)
+other-nothing answer.Locked other = refl
+other-nothing (answer.Group group) other = refl
+other-nothing answer.Lost other = refl
+other-nothing (answer.GroupAndLost group) other = refl
+other-nothing answer.Refused other = refl

@@ -16,15 +16,15 @@ byte_bits = 8
 abbrev pub is_nothing_of : Answer → Bool
 is_nothing_of Nothing = true
 is_nothing_of Locked = false
-is_nothing_of Group = false
+is_nothing_of (Group group) = false
 is_nothing_of Lost = false
-is_nothing_of GroupAndLost = false
+is_nothing_of (GroupAndLost group) = false
 is_nothing_of Refused = false
 
 -- a step after which feeding stops, and the place of the next bit: its byte, and which bit of that byte
 abbrev pub stopped_of : Step → ℕ → ℕ → Advanced
 stopped_of step byte bit =
-    record { next = step.next; answer = step.answer; group = step.group; byte = byte; bit = bit }
+    record { next = step.next; answer = step.answer; byte = byte; bit = bit }
 
 -- the n bits from bit i on: feeding stops after the next answer other than nothing, or at the end
 unfoldable pub feed_of : Receiver → List ℕ → ℕ → ℕ → Advanced

@@ -142,7 +142,7 @@ hand_of ThirdCPrime hand = hand
 hand_of ThirdBad hand = hand
 hand_of Fourth hand = empty_of
 
--- the group that is answered; the empty one where none is
+-- a group where there is one; else the empty one
 abbrev pub given_of : Bool → Group → Group
 given_of done hand = cond done hand empty_of
 
@@ -162,12 +162,12 @@ counted_of run bad judged =
 
 -- no answer but the state
 abbrev pub silent_of : Receiver → Step
-silent_of r = record { next = r; answer = answer.Nothing; group = empty_of }
+silent_of r = record { next = r; answer = answer.Nothing }
 
 -- the last 52 bits were tried
 abbrev pub tried_of : ℕ → Option Lock → Step
 tried_of window (Some lock) =
-    record { next = locked_of lock.kind lock.older lock.newer; answer = answer.Locked; group = empty_of }
+    record { next = locked_of lock.kind lock.older lock.newer; answer = answer.Locked }
 tried_of window None = silent_of (hunting_of window pair_bits)
 
 -- a bit while hunting
@@ -188,8 +188,7 @@ ended_of place held judged hand run =
     record {
       next = cond run.lost fresh_of
           (begin_of (after_of place judged) (held_of place held) (hand_of place hand) run.run run.bad);
-      answer = say_of (completes_of place held) run.lost;
-      group = given_of (completes_of place held) hand;
+      answer = say_of (completes_of place held) run.lost hand;
     }
 
 -- a block's end: the block goes into the group in hand and into the run
@@ -207,7 +206,7 @@ follow_of r bit =
 -- one bit: a bit that is neither 0 nor 1 is refused and changes nothing
 unfoldable pub step_of : Receiver → ℕ → Step
 step_of r bit =
-    cond (ltb 1 bit) (record { next = r; answer = answer.Refused; group = empty_of })
+    cond (ltb 1 bit) (record { next = r; answer = answer.Refused })
     (cond (is_hunting_of r.place) (hunt_of r.window r.count bit) (follow_of r bit))
 
 -- the state after bits, the first of them first

@@ -4,6 +4,7 @@ use Rattle.blocks.specs.Block.{Found, Judged, read_of, judge_of}
 use Rattle.blocks.specs.declared.Kind.{Kind}
 use Rattle.blocks.specs.declared.Kind.TheVariants.{A, B, C, CPrime, D}
 use Rattle.blocks.specs.declared.BlockError.TheVariants as error
+use Rattle.groups.specs.declared.Group.{Group}
 use Rattle.groups.specs.Group.{judged_good}
 use Rattle.groups.specs.Header.{third_kind}
 use Rattle.receiver.specs.declared.Lock.{Lock}
@@ -77,9 +78,9 @@ loses_of bad = ltb bad_limit bad
 
 -- ---- what is answered
 
--- at a block's end: whether a group is done, and whether lock is lost
-abbrev pub say_of : Bool → Bool → Answer
-say_of false false = answer.Nothing
-say_of false true = answer.Lost
-say_of true false = answer.Group
-say_of true true = answer.GroupAndLost
+-- at a block's end: whether a group is done, whether lock is lost, and the group
+abbrev pub say_of : Bool → Bool → Group → Answer
+say_of false false group = answer.Nothing
+say_of false true group = answer.Lost
+say_of true false group = answer.Group group
+say_of true true group = answer.GroupAndLost group

@@ -1,9 +1,7 @@
 -- What the functions inside promise each other; a reader of the public promises needs none of it.
 use Rattle.std.specs.Prelude.{ℕ, ◌+◌, ◌*◌, ◌^◌, ◌<◌, ◌≤◌, ◌≡◌, List, length, false, cond, ltb, Option, Some, None}
-use Rattle.groups.specs.Group.{empty_of}
 use Rattle.receiver.specs.declared.Answer.{Answer}
 use Rattle.receiver.specs.declared.Answer.TheVariants.{Nothing, Locked}
-use Rattle.receiver.specs.declared.Step.{Step}
 use Rattle.receiver.specs.declared.Lock.{Lock}
 use Rattle.receiver.specs.declared.Receiver.{Receiver}
 use Rattle.receiver.specs.declared.Advanced.{Advanced}
@@ -12,10 +10,6 @@ use Rattle.receiver.specs.declared.Filled.{Filled}
 use Rattle.receiver.specs.Rules.{pair_bits, lock_of}
 use Rattle.receiver.specs.Machine.{older_of, newer_of, is_hunting_of, hunting_of, locked_of, inside_of}
 use Rattle.receiver.specs.Feeding.{byte_bits, is_nothing_of, advance_of}
-
--- a state with an answer and no group
-abbrev pub answering_of : Receiver → Answer → Step
-answering_of r answer = record { next = r; answer = answer; group = empty_of }
 
 -- feeding goes on after the answer nothing
 abbrev pub then_of : Advanced → List ℕ → Advanced

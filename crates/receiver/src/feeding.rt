@@ -47,7 +47,6 @@ fn stopped(step: Step, spot: Spot) -> Advanced
     Advanced {
         next: step.next,
         answer: step.answer,
-        group: step.group,
         byte: spot.byte,
         bit: spot.bit,
     }
@@ -57,7 +56,11 @@ fn stopped(step: Step, spot: Spot) -> Advanced
 fn resting(receiver: Receiver, spot: Spot) -> Advanced
     ensures { result ≡ stopped_of (silent_of receiver) spot.byte spot.bit }
 {
-    stopped(crate::answering(receiver, Answer::Nothing), spot)
+    let silent = Step {
+        next: receiver,
+        answer: Answer::Nothing,
+    };
+    stopped(silent, spot)
 }
 
 // Hunting, takes in the bits from a place on, up to one that locks or the end of the bytes. The place goes on bit by
@@ -168,9 +171,9 @@ impl Receiver {
         let mut next = self;
         while spot.byte < bytes.len() {
             let taken = some_fed(next, bytes, spot);
-            if taken.answer != Answer::Nothing {
+            let Answer::Nothing = taken.answer else {
                 return taken;
-            }
+            };
             next = taken.next;
             spot = Spot {
                 byte: taken.byte,

@@ -5,11 +5,11 @@
 
 ghost use Rattle.std.specs.Prelude.{◌≡◌, cond, ◌<◌};
 ghost use Rattle.receiver.specs.Rules.{follower_of, lock_of, say_of};
-ghost use Rattle.receiver.specs.Answers.{answer_number, bit_number};
+ghost use Rattle.receiver.specs.Answers.{answer_number, bit_number, group_of};
 ghost use Rattle.receiver.specs.Machine.{shift_of, fresh_of, hunting_of, begin_of, place_of, third_place_of, locked_of};
 ghost use Rattle.receiver.specs.Machine.{index_of, judge_at_of, after_of, given_of, bad_with_of, counted_of};
 ghost use Rattle.receiver.specs.Machine.{hunt_of, end_of, follow_of, step_of};
-ghost use Rattle.receiver.specs.Strides.{answering_of, window_limit, lock_after_of, count_after_of, hunted_of, lock_answer_of};
+ghost use Rattle.receiver.specs.Strides.{window_limit, lock_after_of, count_after_of, hunted_of, lock_answer_of};
 
 use blocks::{BlockError, Judged, Kind};
 use groups::Group;
@@ -28,14 +28,14 @@ pub enum Place {
     Fourth,
 }
 
-// What a bit is answered.
+// What a bit is answered. A group that is answered is in the answer.
 #[derive(Clone, Copy, PartialEq, Eq)]
 pub enum Answer {
     Nothing,
     Locked,
-    Group,
+    Group(Group),
     Lost,
-    GroupAndLost,
+    GroupAndLost(Group),
     Refused,
 }
 
@@ -71,22 +71,19 @@ pub struct Receiver {
     pub bad: u8,
 }
 
-// The next state with the answer; the group is the empty one where none is answered. It stands beside the answer, not
-// in it: the laws over streams say a group for every bit (`receiver_agrees`), and `bench_feed` tells one's bytes.
+// The next state with the answer.
 #[derive(Clone, Copy)]
 pub struct Step {
     pub next: Receiver,
     pub answer: Answer,
-    pub group: Group,
 }
 
-// Where feeding bytes stopped: the next state, the answer with its group, and the place of the next bit, its byte and
-// which bit of that byte, the highest being 0.
+// Where feeding bytes stopped: the next state, the answer, and the place of the next bit, its byte and which bit of that
+// byte, the highest being 0.
 #[derive(Clone, Copy)]
 pub struct Advanced {
     pub next: Receiver,
     pub answer: Answer,
-    pub group: Group,
     pub byte: usize,
     pub bit: u8,
 }
@@ -336,13 +333,13 @@ fn counted(run: u8, bad: u8, judged: Judged) -> Run
     }
 }
 
-// What is answered at a block's end.
-fn say(done: bool, lost: bool) -> Answer
-    ensures { result ≡ say_of done lost }
+// What is answered at a block's end, where this group may be done.
+fn say(done: bool, lost: bool, group: Group) -> Answer
+    ensures { result ≡ say_of done lost group }
 {
     match (done, lost) {
-        (true, true) => Answer::GroupAndLost,
-        (true, false) => Answer::Group,
+        (true, true) => Answer::GroupAndLost(group),
+        (true, false) => Answer::Group(group),
         (false, true) => Answer::Lost,
         (false, false) => Answer::Nothing,
     }
@@ -353,17 +350,6 @@ fn shifted(window: u64, bit: u8) -> u64
     ensures { result ≡ shift_of window bit }
 {
     window % KEPT_LIMIT * 2 + u64::from(bit)
-}
-
-// A state with an answer and no group.
-fn answering(next: Receiver, answer: Answer) -> Step
-    ensures { result ≡ answering_of next answer }
-{
-    Step {
-        next,
-        answer,
-        group: groups::empty(),
-    }
 }
 
 // Whether the last 52 bits lock, once so many have come; `count` is how many there were before the last.
@@ -411,7 +397,10 @@ fn hunt(window: u64, count: u8, bit: u8) -> Step
 {
     let moved = shifted(window, bit);
     let lock = lock_after(moved, count);
-    answering(hunted(lock, moved, count_after(count)), lock_answer(lock))
+    Step {
+        next: hunted(lock, moved, count_after(count)),
+        answer: lock_answer(lock),
+    }
 }
 
 // The group where there is one, else the empty one.
@@ -447,8 +436,7 @@ fn end(receiver: Receiver, judged: Judged) -> Step
             fourth | receiver.held,
             given(!fourth, group),
         ),
-        answer: say(done, run.lost),
-        group: given(done, group),
+        answer: say(done, run.lost, group),
     }
 }
 
@@ -463,12 +451,27 @@ fn follow(receiver: Receiver, bit: u8) -> Step
             count: receiver.count + 1,
             ..receiver
         };
-        return answering(next, Answer::Nothing);
+        return Step {
+            next,
+            answer: Answer::Nothing,
+        };
     }
     end(
         receiver,
         judge_at(receiver.place, (moved % BLOCK_LIMIT) as u32),
     )
+}
+
+impl Answer {
+    // The group that is answered; the empty one where none is.
+    pub fn group(self) -> Group
+        ensures { result ≡ group_of self }
+    {
+        match self {
+            Answer::Group(group) | Answer::GroupAndLost(group) => group,
+            Answer::Nothing | Answer::Locked | Answer::Lost | Answer::Refused => groups::empty(),
+        }
+    }
 }
 
 impl Receiver {
@@ -484,7 +487,10 @@ impl Receiver {
         ensures { (result ≡ step_of self bit) × (answer_number result.answer ≡ bit_number bit) }
     {
         if bit > ONE {
-            return answering(self, Answer::Refused);
+            return Step {
+                next: self,
+                answer: Answer::Refused,
+            };
         }
         if self.place == Place::Hunting {
             hunt(self.window, self.count, bit)

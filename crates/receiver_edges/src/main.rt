@@ -25,13 +25,13 @@ fn write_group(rt: &impl Print, group: Group) -> io::Result<()> {
     Ok(())
 }
 
-fn write_answer(rt: &impl Print, answer: Answer, group: Group) -> io::Result<()> {
+fn write_answer(rt: &impl Print, answer: Answer) -> io::Result<()> {
     match answer {
         Answer::Nothing => print!(rt; " nothing"),
         Answer::Locked => print!(rt; " locked"),
-        Answer::Group => write_group(rt, group),
+        Answer::Group(group) => write_group(rt, group),
         Answer::Lost => print!(rt; " lost"),
-        Answer::GroupAndLost => {
+        Answer::GroupAndLost(group) => {
             write_group(rt, group)?;
             print!(rt; " lost")
         }
@@ -46,7 +46,7 @@ fn write_line(rt: &impl Print, number: usize, came: Advanced) -> io::Result<()> 
         .saturating_mul(8)
         .saturating_add(usize::from(came.bit));
     print!(rt; "stream {number} bit {}", bits.saturating_sub(1))?;
-    write_answer(rt, came.answer, came.group)?;
+    write_answer(rt, came.answer)?;
     println!(rt)
 }
 

@@ -4,7 +4,6 @@ use Rattle.std.proofs.Common.{◌≡◌, ℕ, zero, suc, ◌+◌, ◌-◌, ◌*�
 use mathlib.Core.Bool.{false≢true}
 use Rattle.bits.specs.Bytes.{bit_at}
 use Rattle.groups.specs.Group.{empty_of, counts_of, is_all_good_of, good_of}
-use Rattle.groups.specs.declared.Group.{Group}
 use Rattle.receiver.specs.declared.Answer.{Answer}
 use Rattle.receiver.specs.declared.Answer.TheVariants as answer
 use Rattle.receiver.specs.declared.Receiver.{Receiver}
@@ -32,21 +31,20 @@ empty-counts = refl
 empty_kept : (station : Record) → updated_of station empty_of ≡ station
 empty_kept station = updated_kept station empty_of empty-counts
 
-nothing_kept : (counts : Counts) (said : Answer) (group : Group) → is_nothing_of said ≡ true
-    → counted_of counts said group ≡ counts
-nothing_kept counts answer.Nothing group e = refl
-nothing_kept counts answer.Locked group e = absurd (false≢true e)
-nothing_kept counts answer.Group group e = absurd (false≢true e)
-nothing_kept counts answer.Lost group e = absurd (false≢true e)
-nothing_kept counts answer.GroupAndLost group e = absurd (false≢true e)
-nothing_kept counts answer.Refused group e = absurd (false≢true e)
+nothing_kept : (counts : Counts) (said : Answer) → is_nothing_of said ≡ true → counted_of counts said ≡ counts
+nothing_kept counts answer.Nothing e = refl
+nothing_kept counts answer.Locked e = absurd (false≢true e)
+nothing_kept counts (answer.Group group) e = absurd (false≢true e)
+nothing_kept counts answer.Lost e = absurd (false≢true e)
+nothing_kept counts (answer.GroupAndLost group) e = absurd (false≢true e)
+nothing_kept counts answer.Refused e = absurd (false≢true e)
 
 nothing-brings : (said : Answer) → is_nothing_of said ≡ true → brings_group said ≡ false
 nothing-brings answer.Nothing e = refl
 nothing-brings answer.Locked e = refl
-nothing-brings answer.Group e = absurd (false≢true e)
+nothing-brings (answer.Group group) e = absurd (false≢true e)
 nothing-brings answer.Lost e = refl
-nothing-brings answer.GroupAndLost e = absurd (false≢true e)
+nothing-brings (answer.GroupAndLost group) e = absurd (false≢true e)
 nothing-brings answer.Refused e = refl
 
 -- an ear that goes on with another state of its receiver
@@ -59,7 +57,7 @@ took_nothing : (ear : Ear) (bit : ℕ) → is_nothing_of (step_of ear.receiver b
 took_nothing ear bit e =
     let none = no-group-empty ear.receiver bit (nothing-brings (step_of ear.receiver bit).answer e) in
     rw (
-      nothing_kept ear.counts (step_of ear.receiver bit).answer (step_of ear.receiver bit).group e,
+      nothing_kept ear.counts (step_of ear.receiver bit).answer e,
       none,
       empty_kept ear.station,
     )

@@ -1,6 +1,7 @@
 -- What is kept from bit to bit of a recording, and what an answer makes of it.
 use Rattle.std.specs.Prelude.{ℕ, zero, suc, ◌+◌, ◌*◌, List, length}
 use Rattle.bits.specs.Bytes.{bit_at}
+use Rattle.receiver.specs.Answers.{group_of}
 use Rattle.receiver.specs.Machine.{fresh_of as fresh_receiver, step_of}
 use Rattle.receiver.specs.Feeding.{byte_bits}
 use Rattle.receiver.specs.declared.Advanced.{Advanced}
@@ -19,8 +20,8 @@ abbrev pub heard_of : Ear → Advanced → Ear
 heard_of ear taken =
     record {
       receiver = taken.next;
-      station = updated_of ear.station taken.group;
-      counts = counted_of ear.counts taken.answer taken.group;
+      station = updated_of ear.station (group_of taken.answer);
+      counts = counted_of ear.counts taken.answer;
     }
 
 -- one bit: what the receiver answers to it
@@ -28,9 +29,8 @@ abbrev pub took_of : Ear → ℕ → Ear
 took_of ear bit =
     record {
       receiver = (step_of ear.receiver bit).next;
-      station = updated_of ear.station (step_of ear.receiver bit).group;
-      counts =
-          counted_of ear.counts (step_of ear.receiver bit).answer (step_of ear.receiver bit).group;
+      station = updated_of ear.station (group_of (step_of ear.receiver bit).answer);
+      counts = counted_of ear.counts (step_of ear.receiver bit).answer;
     }
 
 -- n bits of a piece, from bit i on

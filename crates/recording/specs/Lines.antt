@@ -4,7 +4,7 @@ use Rattle.std.specs.Prelude.{ℕ, ◌+◌, ◌-◌, ◌*◌, ◌%◌, ◌^◌, 
 use Rattle.receiver.specs.declared.Answer.{Answer}
 use Rattle.receiver.specs.declared.Answer.TheVariants as answer
 use Rattle.receiver.specs.declared.Advanced.{Advanced}
-use Rattle.receiver.specs.Answers.{brings_group}
+use Rattle.receiver.specs.Answers.{brings_group, group_of}
 use Rattle.telling.specs.Pieces.{line_text}
 use Rattle.telling.specs.Lines.{lock_line, lost_line, group_text}
 use Rattle.telling.specs.Station.{station_text}
@@ -26,15 +26,15 @@ bits_after before bytes = (before + 8 * bytes) % 2 ^ 64
 -- its group, with the number of the groups before it
 unfoldable pub group_line : Bool → Ear → Advanced → List ℕ
 group_line short ear taken =
-    cond short [] (cond (brings_group taken.answer) (group_text ear.counts.groups taken.group) [])
+    cond short [] (cond (brings_group taken.answer) (group_text ear.counts.groups (group_of taken.answer)) [])
 
 -- lock taken, or lost, with a bit
 abbrev pub lock_text : Answer → ℕ → List ℕ
 lock_text answer.Nothing bit = []
 lock_text answer.Locked bit = line_text (lock_line bit)
-lock_text answer.Group bit = []
+lock_text (answer.Group group) bit = []
 lock_text answer.Lost bit = line_text (lost_line bit)
-lock_text answer.GroupAndLost bit = line_text (lost_line bit)
+lock_text (answer.GroupAndLost group) bit = line_text (lost_line bit)
 lock_text answer.Refused bit = []
 
 -- with the bit that brought the answer: the one before the next place

@@ -39,8 +39,8 @@ pub fn heard(ear: Ear, taken: Advanced) -> Ear
 {
     Ear {
         receiver: taken.next,
-        station: station::updated(ear.station, taken.group),
-        counts: counts::counted(ear.counts, taken.answer, taken.group),
+        station: station::updated(ear.station, taken.answer.group()),
+        counts: counts::counted(ear.counts, taken.answer),
     }
 }
 
@@ -60,8 +60,8 @@ pub fn group_line(ear: Ear, taken: Advanced, short: bool, out: &mut [u8; GROUP_R
         return 0;
     }
     match taken.answer {
-        Answer::Group | Answer::GroupAndLost => {
-            letters::written(telling::group(ear.counts.groups, taken.group, out))
+        Answer::Group(group) | Answer::GroupAndLost(group) => {
+            letters::written(telling::group(ear.counts.groups, group, out))
         }
         Answer::Nothing | Answer::Locked | Answer::Lost | Answer::Refused => 0,
     }
@@ -78,8 +78,8 @@ pub fn lock_line(taken: Advanced, before: u64, short: bool, out: &mut [u8; LINE_
     let bit = bit_before(before, taken.byte, taken.bit);
     match taken.answer {
         Answer::Locked => letters::written(telling::lock(bit, out)),
-        Answer::Lost | Answer::GroupAndLost => letters::written(telling::lost(bit, out)),
-        Answer::Nothing | Answer::Group | Answer::Refused => 0,
+        Answer::Lost | Answer::GroupAndLost(_) => letters::written(telling::lost(bit, out)),
+        Answer::Nothing | Answer::Group(_) | Answer::Refused => 0,
     }
 }
 

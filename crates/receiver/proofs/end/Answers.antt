@@ -7,7 +7,6 @@ pub returns : goal.returns
 unfolding ended_of
 returns c = let r = c.args.receiver in
     rw (
-      c.given-2.ensures,
       c.say.ensures,
       c.next_after.ensures,
       c.given.ensures,

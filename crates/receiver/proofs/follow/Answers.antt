@@ -10,7 +10,6 @@ pub returns-then-receiver : goal.returns-then-receiver
 unfolding follow_of
 returns-then-receiver c = rw (
   lt-ltb (c.args.receiver.count + 1) block_bits (omega arith),
-  c.answering.ensures,
   c.shifted-moved.ensures,
 )
 

@@ -9,7 +9,6 @@ lock_after-lock-requires c = rw c.shifted-moved.ensures (shift-limit c.args.wind
 pub returns : goal.returns
 returns c = let a = c.args in
     rw (
-      c.answering.ensures,
       c.lock_answer.ensures,
       c.hunted.ensures,
       c.count_after.ensures,

@@ -1,6 +1,6 @@
 -- `recording::group_line` meets its promise: by whether the summary alone is asked for, and by the answer.
 use Rattle.std.proofs.Common.{◌≡◌, true, false, inl, inr, arith}
-use Rattle.receiver.specs.Answers.{brings_group}
+use Rattle.receiver.specs.Answers.{brings_group, group_of}
 use Rattle.letters.proofs.Buffers.{wrote_none}
 use Rattle.letters.proofs.Handing.{within_wrote}
 use Rattle.telling.specs.Rooms.{group_room}
@@ -16,7 +16,9 @@ unfolding group_line
 returns-in-Group c =
     let brings : brings_group c.args.taken.answer ≡ true =
     elim c.in-Group.is [ inl e ↦ rw e | inr e ↦ rw e ] in
-    rw (c.if-short.false, brings, c.written.ensures) (within_wrote group_room c.group.ensures (omega arith))
+    let held : group_of c.args.taken.answer ≡ c.in-Group.group =
+    elim c.in-Group.is [ inl e ↦ rw e | inr e ↦ rw e ] in
+    rw (c.if-short.false, brings, held, c.written.ensures) (within_wrote group_room c.group.ensures (omega arith))
 
 pub returns-in-Nothing : goal.returns-in-Nothing
 unfolding group_line

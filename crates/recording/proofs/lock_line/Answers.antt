@@ -22,7 +22,7 @@ pub returns-in-Lost : goal.returns-in-Lost
 unfolding lock_line_of
 returns-in-Lost c =
     let lost : lock_text c.args.taken.answer c.bit_before-bit.result ≡ line_text (lost_line c.bit_before-bit.result) =
-    elim c.in-Lost.is [ inl e ↦ rw e | inr e ↦ rw e ] in
+    elim c.in-Lost.is [ inl e ↦ rw e | inr (group, e) ↦ rw e ] in
     rw (c.if-short.false, ← c.bit_before-bit.ensures, lost, c.written-in-Lost.ensures)
     (within_wrote line_room c.lost.ensures (omega arith))
 
@@ -30,5 +30,5 @@ pub returns-in-Nothing : goal.returns-in-Nothing
 unfolding lock_line_of
 returns-in-Nothing c =
     let none : lock_text c.args.taken.answer (bit_before c.args.before c.args.taken.byte c.args.taken.bit) ≡ [] =
-    elim c.in-Nothing.is [ inl e ↦ rw e | inr (inl e) ↦ rw e | inr (inr e) ↦ rw e ] in
+    elim c.in-Nothing.is [ inl e ↦ rw e | inr (inl (group, e)) ↦ rw e | inr (inr e) ↦ rw e ] in
     rw (c.if-short.false, none) (wrote_none c.args.out.now 0, omega arith)

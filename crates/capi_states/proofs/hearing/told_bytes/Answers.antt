@@ -13,7 +13,7 @@ high_byte word h = omega arith
 pub returns : goal.returns
 unfolding told_of
 returns c =
-    let g = c.args.group in
+    let g = c.group-group.result in
     let one : word_of g 0 / 256 % 256 ≡ word_of g 0 / 256 = rw c.word.ensures at (high_byte c.word.result (omega arith)) in
     let two : word_of g 1 / 256 % 256 ≡ word_of g 1 / 256 = rw c.word-2.ensures at (high_byte c.word-2.result (omega arith)) in
     let three : word_of g 2 / 256 % 256 ≡ word_of g 2 / 256 = rw c.word-3.ensures at (high_byte c.word-3.result (omega arith)) in
@@ -36,5 +36,6 @@ returns c =
       c.word-2.ensures,
       c.word-3.ensures,
       c.word-4.ensures,
+      ← c.group-group.ensures,
     )
     (simp (flag_number, one, two, three, four))

@@ -1,7 +1,7 @@
 -- `receiver::Receiver::advance` meets its promise. Feeding on from where the loop is gives the whole answer.
-use mathlib.Core.Path.{refl, sym, ◌∙◌}
-use Rattle.receiver.proofs.Feeds.{advance-end, advance_no-bit, then_on, then_stop, advance_settled}
-use Rattle.receiver.proofs.Same.{same-nothing, other-nothing}
+use mathlib.Core.Path.{refl, ◌∙◌}
+use Rattle.receiver.proofs.Feeds.{advance-end, advance_no-bit, then_stop, advance_settled}
+use Rattle.receiver.proofs.Same.{other-nothing}
 use borrow.Author.Rules.{rules}
 use native.Mathlib.Omega.{arith}
 use Rattle.receiver.proofs.Receiver.advance.Goals as goal
@@ -22,19 +22,11 @@ loop-spot-smaller c = omega (
   c.some_fed-taken.ensures.within,
 )
 
-pub loop-spot-preserved : goal.loop-spot-preserved
-loop-spot-preserved c = (
-  c.loop-spot.invariant.0 ∙ c.some_fed-taken.ensures.whole
-      ∙ then_on c.some_fed-taken.result _
-      (same-nothing c.some_fed-taken.result.answer (sym c.ne.ensures ∙ c.if-ne.false)),
-  c.some_fed-taken.ensures.within,
-)
-
-pub returns-then-ne : goal.returns-then-ne
-returns-then-ne c = let a = c.args in
+pub returns-in_default : goal.returns-in_default
+returns-in_default c = let a = c.args in
     advance_settled _ a.self a.bytes.now a.byte a.bit
     (c.loop-spot.invariant.0 ∙ c.some_fed-taken.ensures.whole
-    ∙ then_stop c.some_fed-taken.result _ (other-nothing c.some_fed-taken.result.answer (sym c.ne.ensures ∙ c.if-ne.true)))
+    ∙ then_stop c.some_fed-taken.result _ (other-nothing c.some_fed-taken.result.answer c.in_default.not-Nothing))
 
 pub returns : goal.returns
 returns c = let a = c.args in let l = c.loop-spot in

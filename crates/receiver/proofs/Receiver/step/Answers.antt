@@ -9,7 +9,7 @@ use Rattle.receiver.proofs.Receiver.step.Goals as goal
 pub returns-then-bit-gt-ONE : goal.returns-then-bit-gt-ONE
 unfolding step_of
 returns-then-bit-gt-ONE c = let a = c.args in
-    step_settled _ a.self a.bit (rw (lt-ltb 1 a.bit (omega arith), c.answering.ensures))
+    step_settled _ a.self a.bit (rw (lt-ltb 1 a.bit (omega arith)))
 
 pub returns-then-eq : goal.returns-then-eq
 unfolding step_of

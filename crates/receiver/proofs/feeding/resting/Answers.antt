@@ -2,4 +2,4 @@
 use Rattle.receiver.proofs.feeding.resting.Goals as goal
 
 pub returns : goal.returns
-returns c = rw (c.stopped.ensures, c.answering.ensures)
+returns c = rw c.stopped.ensures
