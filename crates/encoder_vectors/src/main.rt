@@ -38,13 +38,14 @@ fn write_encoded(rt: &impl Print, sheet: &[u8], out: &mut [u8]) -> io::Result<()
     write_hex(rt, out)
 }
 
-// Bytes in hex, 13 to a line.
+// Bytes in hex, 13 to a line, and each line by one call.
 fn write_hex(rt: &impl Print, bytes: &[u8]) -> io::Result<()> {
     for line in bytes.chunks(LINE) {
-        for byte in line {
-            print!(rt; "{byte:02X}")?;
-        }
-        println!(rt)?;
+        let digits = 2 * line.len();
+        let number = line
+            .iter()
+            .fold(0u128, |high, byte| high << 8 | u128::from(*byte));
+        println!(rt; "{number:0digits$X}")?;
     }
     Ok(())
 }

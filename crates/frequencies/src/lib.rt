@@ -128,29 +128,28 @@ fn expecting_only(count: u8) -> AfList
     }
 }
 
-// The list with a frequency more, if it is not in the list and fewer are held than expected.
-fn appended(list: AfList, khz: u32) -> AfList
-    ensures { result ≡ appended_of list khz }
+// Appends a frequency, if it is not in the list and fewer are held than expected. The list is lent, here and below: by
+// value each word would copy it four times.
+fn append(list: &mut AfList, khz: u32)
+    ensures { list.new ≡ appended_of list.old khz }
 {
     let at = usize::from(list.held);
     if list.expected <= list.held || SLOTS <= at || list.khz[..at].contains(&khz) {
-        return list;
+        return;
     }
-    let mut longer = list;
-    longer.khz[at] = khz;
-    longer.held += 1;
-    longer
+    list.khz[at] = khz;
+    list.held += 1;
 }
 
-// The list after one meaning.
+// Tells a list one meaning.
 #[tactic(auto, unfolding(crate::specs::AfList::told_of))]
-fn told(list: AfList, meaning: Meaning) -> AfList
-    ensures { result ≡ told_of list meaning }
+fn tell(list: &mut AfList, meaning: Meaning)
+    ensures { list.new ≡ told_of list.old meaning }
 {
     match meaning {
-        Meaning::Count(count) => expecting_only(count),
-        Meaning::Frequency(khz) => appended(list, khz),
-        Meaning::NoChange => list,
+        Meaning::Count(count) => *list = expecting_only(count),
+        Meaning::Frequency(khz) => append(list, khz),
+        Meaning::NoChange => {}
     }
 }
 
@@ -167,7 +166,10 @@ pub fn taken(list: AfList, word: u16) -> AfList
     ensures { result ≡ taken_of list word }
 {
     let meanings = af_word(word);
-    told(told(list, meanings.first), meanings.second)
+    let mut next = list;
+    tell(&mut next, meanings.first);
+    tell(&mut next, meanings.second);
+    next
 }
 
 // How many are held.

@@ -32,6 +32,7 @@ pub fn empty() -> Group
 }
 
 // The group with a judged block at a place, 0 to 3; at no other place does it change. A bad block's word is 0.
+#[tactic(auto, unfolding(crate::specs::Group::with_block_of))]
 pub fn with_block(group: Group, place: usize, judged: Judged) -> Group
     ensures { result ≡ with_block_of group place judged }
 {

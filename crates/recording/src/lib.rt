@@ -60,7 +60,8 @@ pub fn group_line(ear: Ear, taken: Advanced, short: bool, out: &mut [u8; GROUP_R
         return 0;
     }
     match taken.answer {
-        Answer::Group(group) | Answer::GroupAndLost(group) => {
+        Answer::Group(group) => letters::written(telling::group(ear.counts.groups, group, out)),
+        Answer::GroupAndLost(group) => {
             letters::written(telling::group(ear.counts.groups, group, out))
         }
         Answer::Nothing | Answer::Locked | Answer::Lost | Answer::Refused => 0,

@@ -1,6 +1,6 @@
 -- `recording::group_line` meets its promise: by whether the summary alone is asked for, and by the answer.
-use Rattle.std.proofs.Common.{◌≡◌, true, false, inl, inr, arith}
-use Rattle.receiver.specs.Answers.{brings_group, group_of}
+use Rattle.std.proofs.Common.{◌≡◌, false, inl, inr, arith}
+use Rattle.receiver.specs.Answers.{brings_group}
 use Rattle.letters.proofs.Buffers.{wrote_none}
 use Rattle.letters.proofs.Handing.{within_wrote}
 use Rattle.telling.specs.Rooms.{group_room}
@@ -14,11 +14,13 @@ returns-then-short c = rw c.if-short.true (wrote_none c.args.out.now 0, omega ar
 pub returns-in-Group : goal.returns-in-Group
 unfolding group_line
 returns-in-Group c =
-    let brings : brings_group c.args.taken.answer ≡ true =
-    elim c.in-Group.is [ inl e ↦ rw e | inr e ↦ rw e ] in
-    let held : group_of c.args.taken.answer ≡ c.in-Group.group =
-    elim c.in-Group.is [ inl e ↦ rw e | inr e ↦ rw e ] in
-    rw (c.if-short.false, brings, held, c.written.ensures) (within_wrote group_room c.group.ensures (omega arith))
+    rw (c.if-short.false, c.in-Group.is, c.written.ensures) (within_wrote group_room c.group.ensures (omega arith))
+
+pub returns-in-GroupAndLost : goal.returns-in-GroupAndLost
+unfolding group_line
+returns-in-GroupAndLost c =
+    rw (c.if-short.false, c.in-GroupAndLost.is, c.written-in-GroupAndLost.ensures)
+    (within_wrote group_room c.group-in-GroupAndLost.ensures (omega arith))
 
 pub returns-in-Nothing : goal.returns-in-Nothing
 unfolding group_line
