@@ -128,8 +128,8 @@ fn expecting_only(count: u8) -> AfList
     }
 }
 
-// Appends a frequency, if it is not in the list and fewer are held than expected. The list is lent, here and below: by
-// value each word would copy it four times.
+// Appends a frequency, if it is not in the list and fewer are held than expected. The list is lent, here and in `tell`:
+// by value it would be copied again and again for each word.
 fn append(list: &mut AfList, khz: u32)
     ensures { list.new ≡ appended_of list.old khz }
 {
