@@ -38,7 +38,7 @@ fn write_encoded(rt: &impl Print, sheet: &[u8], out: &mut [u8]) -> io::Result<()
     write_hex(rt, out)
 }
 
-// Bytes in hex, 13 to a line, and each line by one call.
+// Bytes in hex, 13 to a line. A line is one number, for which 128 bits are enough, and goes out by one call.
 fn write_hex(rt: &impl Print, bytes: &[u8]) -> io::Result<()> {
     for line in bytes.chunks(LINE) {
         let digits = 2 * line.len();

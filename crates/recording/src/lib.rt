@@ -59,6 +59,7 @@ pub fn group_line(ear: Ear, taken: Advanced, short: bool, out: &mut [u8; GROUP_R
     if short {
         return 0;
     }
+    // An arm for each of the two that bring a group, so that a wrong line of one alone can be tried (locks_for_groups).
     match taken.answer {
         Answer::Group(group) => letters::written(telling::group(ear.counts.groups, group, out)),
         Answer::GroupAndLost(group) => {
